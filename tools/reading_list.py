@@ -53,7 +53,7 @@ OTHERS = {
         ("jsonptr_paths/src/listing.rt", ["list"]),
         ("jsonptr_paths/src/text_listing.rt", ["list_in_text"]),
         ("jsonptr_paths/src/toml_listing.rt", ["list_toml"]),
-        ("jsonptr_paths/src/reading.rt", ["build"]),
+        ("jsonptr_paths/src/build.rt", ["build"]),
     ],
     "JSON with comments": [
         ("jsonptr_comments/src/comments.rt", ["without_comments"]),

@@ -2,15 +2,20 @@
 """Times edits in a text beside reading, changing and printing the document, and beside `jq`, and prints tables in Markdown.
 
     tools/bench/edits.py [--rounds N] [--only WORD] OURS [--jq PROGRAM]
+    tools/bench/edits.py [--only WORD] OURS --before PROGRAM
 
 OURS is the built program of crates/jsonptr_tool_calls. The ways run in turn on each file. A time is the processor time of
 one edit: the least of all rounds, without starting the program and reading the file. That of `jq` is of a whole run. Memory
 is the greatest of a run that makes one edit. The edits in a text share one `Buffers`; the column "with its own buffers"
 has the time of the first edit where each makes its own.
+
+With --before, the same program of an earlier commit, it prints the instructions of each edit in a text of 1 KB, before and
+now, as `valgrind` counts them.
 """
 import argparse
 import json
 import os
+import re
 import subprocess
 import sys
 import tempfile
@@ -111,6 +116,38 @@ def measured(words, kind, count, turns, path):
     return times, least(commands, path, min(words.rounds, 3))
 
 
+def instructions(command, path):
+    """Returns how many instructions a run on a file takes."""
+    with open(path, "rb") as given:
+        counting = ["valgrind", "--tool=callgrind", "--callgrind-out-file=/dev/null", *command]
+        done = subprocess.run(counting, stdin=given, stdout=subprocess.DEVNULL, stderr=subprocess.PIPE, text=True, check=True)
+    return int(re.search(r"refs: +([\d,]+)", done.stderr)[1].replace(",", ""))
+
+
+def instructions_of_edit(program, edit, path):
+    """Returns how many instructions one edit takes, without starting the program and reading the file."""
+    few, many = (instructions([program, "text", *edit, str(turns)], path) for turns in (10, 110))
+    return (many - few) / 100
+
+
+def compare(words):
+    """Prints the instructions of each edit in the texts of 1 KB, before and now."""
+    print("| Text | " + " | ".join(EDITS) + " |")
+    print("|---" * (len(EDITS) + 1) + "|")
+    for kind, count, size_name, _ in FILES:
+        if size_name != "1 KB" or (words.only and words.only not in kind):
+            continue
+        with tempfile.NamedTemporaryFile(suffix=".json") as file:
+            make(SHAPES[kind].document, count, file.name)
+            cells = []
+            for name in EDITS:
+                edit = edit_of(name, SHAPES[kind], count)
+                before, now = (instructions_of_edit(it, edit, file.name) for it in (words.before, words.ours))
+                cells.append(f"{before:,.0f}, {now:,.0f}: {now / before:.3f}")
+        print(f"| {SHAPES[kind].name.format(count)} | " + " | ".join(cells) + " |")
+        sys.stdout.flush()
+
+
 def shown(seconds):
     """Returns a time with its unit."""
     return f"{1e6 * seconds:.3g} µs" if seconds < 1e-3 else f"{1e3 * seconds:.3g} ms"
@@ -139,7 +176,10 @@ def main():
     parser.add_argument("--only")
     parser.add_argument("ours")
     parser.add_argument("--jq")
+    parser.add_argument("--before")
     words = parser.parse_args()
+    if words.before:
+        return compare(words)
     names = ["Text", "Size", *EDITS, "with its own buffers", "memory in text", "memory of the document", *(["`jq`"] if words.jq else [])]
     print("| " + " | ".join(names) + " |")
     print("|---" * len(names) + "|")

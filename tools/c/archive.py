@@ -15,7 +15,7 @@ import repository  # noqa: E402
 CRATES = repository.CRATES
 NAME = "jsonptr_c"
 ARCHIVE = f"{CRATES}/{NAME}/out/lib{NAME}.a"
-# `rt` keeps work in `out`. The rest of a crate's folder is what it is proved from, except for these.
+# `rt` keeps work in `out`. The rest of a crate's folder is what it is proved from, except for these and documents.
 NOT_READ = {"out", "must-fail", "mutants"}
 
 
@@ -29,7 +29,7 @@ def files_below(folder):
     for path, folders, files in os.walk(folder):
         if path == folder:
             folders[:] = [it for it in folders if it not in NOT_READ]
-        yield from (f"{path}/{file}" for file in files)
+        yield from (f"{path}/{file}" for file in files if not file.endswith(".md"))
 
 
 def is_left_by_the_gate(name):

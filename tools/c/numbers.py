@@ -21,7 +21,7 @@ def defined():
 
 def of_calls():
     """Returns the numbers of the proved calls."""
-    sources = text_of("crates/jsonptr_c_calls/src/error_numbers.rt") + text_of("crates/jsonptr_c_calls/src/node_type.rt")
+    sources = text_of("crates/jsonptr_c_calls/src/error_numbers.rt") + text_of("crates/jsonptr_c_calls/src/node.rt")
     return {name: int(number) for name, number in re.findall(r"^pub const (\w+): u32 = (\d+);", sources, re.M)}
 
 

@@ -728,7 +728,7 @@ fn color_flag() -> Argument {
     Argument::new(
         "color",
         Kind::Value("WHEN"),
-        "Colours what is printed: always, never, or auto, on a terminal if NO_COLOR is not set",
+        "Colours what is printed: always, never, or auto, on a terminal if NO_COLOR is empty or not set",
     )
 }
 

@@ -17,7 +17,7 @@ const BLUE: &str = "\u{1b}[34;1m";
 const GREEN: &str = "\u{1b}[32m";
 
 /// Returns whether what is printed has colours: by the flag `--color`, or on a terminal, unless the variable
-/// `NO_COLOR` is set.
+/// `NO_COLOR` is set and not empty.
 pub fn are_colored(rt: &HostRuntime, matches: &ArgMatches<'_>) -> Result<bool, ProgramError> {
     match matches.get_str("color") {
         Some("always") => Ok(true),

@@ -37,7 +37,7 @@ pub fn run(rt: &HostRuntime) -> Result<u8, ProgramError> {
     let words = words(rt)?;
     match arguments::command(rt.alloc())?.try_get_matches_from(words.as_slice()) {
         Ok(matches) => match matches.subcommand() {
-            Some((name, matches)) => run_command(rt, matches, name),
+            Some((command, matches)) => run_command(rt, matches, command),
             None => Ok(USAGE),
         },
         Err(error) => show_usage(rt, &error),
@@ -70,15 +70,19 @@ fn show_usage(rt: &HostRuntime, error: &Error) -> Result<u8, ProgramError> {
 }
 
 /// Runs the command with this name.
-fn run_command(rt: &HostRuntime, matches: &ArgMatches<'_>, name: &str) -> Result<u8, ProgramError> {
-    match name {
+fn run_command(
+    rt: &HostRuntime,
+    matches: &ArgMatches<'_>,
+    command: &str,
+) -> Result<u8, ProgramError> {
+    match command {
         "get" => get(rt, matches),
         "set" => set(rt, matches),
         "delete" => delete(rt, matches),
         "insert" => insert(rt, matches),
-        "move" | "copy" => transfer(rt, matches, name),
+        "move" | "copy" => transfer(rt, matches, command),
         "rename" => rename(rt, matches),
-        "keys" | "length" | "type" => print_node(rt, matches, name),
+        "keys" | "length" | "type" => print_node(rt, matches, command),
         "test" => test(rt, matches),
         "paths" => paths(rt, matches),
         "from-paths" => from_paths(rt, matches),

@@ -14,7 +14,7 @@ use jsonptr_edit_with_comments::{
     WithCommentsError, assign_raw_with_comments, delete_with_comments, try_apply_raw_with_comments,
 };
 use memchr::memmem;
-use std::alloc::{AllocError, Global};
+use std::alloc::Global;
 use std::borrow::CowStr;
 
 /// Why a document with comments is not laid out anew.
@@ -52,14 +52,14 @@ pub fn edited_with_comments(
     let mut buffers = Buffers::new(alloc);
     match task {
         Task::Get(_, _) => found(alloc, task, text, bare),
-        Task::Set(pointer, value) => {
-            match assign_raw_with_comments(alloc, &mut buffers, text, *pointer, value) {
+        Task::Set(pointer, raw) => {
+            match assign_raw_with_comments(alloc, &mut buffers, text, *pointer, raw) {
                 Ok(new) => Ok(new),
-                Err(error) => Err(TaskError::Assign(refusal(error)?)),
+                Err(error) => Err(TaskError::Assign(refused_error(error)?)),
             }
         }
         Task::Delete(pointer) => deleted(alloc, &mut buffers, text, *pointer),
-        Task::Patch(patch) => patched(alloc, task, patch, text, bare),
+        Task::Patch(patch) => patched(alloc, task, text, bare, patch),
     }
 }
 
@@ -86,7 +86,7 @@ fn deleted(
     match delete_with_comments(alloc, buffers, text, pointer) {
         Ok(Some(new)) => Ok(new),
         Ok(None) => Err(TaskError::NotThere),
-        Err(error) => match refusal(error)? {},
+        Err(error) => match refused_error(error)? {},
     }
 }
 
@@ -94,9 +94,9 @@ fn deleted(
 fn patched(
     alloc: Global,
     task: &Task<'_>,
-    patch: &RawPatch,
     text: &str,
     bare: &str,
+    patch: &RawPatch,
 ) -> Result<String, TaskError> {
     let mut buffers = Buffers::new(alloc);
     let operations = patch.operations.as_slice();
@@ -115,7 +115,7 @@ fn patched(
 /// # Errors
 ///
 /// The error of the task for any other reason.
-fn refusal<E>(error: WithCommentsError<E>) -> Result<E, TaskError> {
+fn refused_error<E>(error: WithCommentsError<E>) -> Result<E, TaskError> {
     match error {
         WithCommentsError::Comment(_) | WithCommentsError::NotJson => Err(TaskError::NotJson),
         WithCommentsError::Refused(refused) => Ok(refused),

@@ -125,7 +125,7 @@ pub fn loss_of(
 /// document, if there is one.
 fn loss_in_values(alloc: Global, task: &Task<'_>) -> Result<Option<LossError>, AllocError> {
     match task {
-        Task::Set(_, value) => match find_lost(alloc, value.text.flat.as_str())? {
+        Task::Set(_, raw) => match find_lost(alloc, raw.text.flat.as_str())? {
             Some(lost) => Ok(Some(LossError::Value(lost))),
             None => Ok(None),
         },

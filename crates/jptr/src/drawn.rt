@@ -26,7 +26,7 @@ pub fn fault_of_task(
     error: &TaskError,
 ) -> Result<Option<String>, AllocError> {
     match (task, error) {
-        (Task::Delete(pointer), TaskError::NotThere) => missing(alloc, *pointer, bytes),
+        (Task::Delete(pointer), TaskError::NotThere) => missing(alloc, bytes, *pointer),
         (Task::Patch(patch), error) => fault_of_patch(alloc, bytes, &patch.document, error),
         _ => Ok(None),
     }
@@ -48,8 +48,8 @@ pub fn fault_of_patch(
 /// Returns the pointer with carets below the token that leads to no value.
 pub fn missing(
     alloc: Global,
-    pointer: Pointer<'_>,
     bytes: &[u8],
+    pointer: Pointer<'_>,
 ) -> Result<Option<String>, AllocError> {
     let Ok(text) = from_utf8(bytes) else {
         return Ok(None);

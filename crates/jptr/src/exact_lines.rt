@@ -55,7 +55,7 @@ fn read_lines<R: BufRead, W: Write, E: Write>(
     let mut ended = Ended::Fine;
     for number in 1..u64::MAX {
         let ending = next_line(input, &mut line)?;
-        if ending == Ending::Nothing {
+        if ending == Ending::NoLine {
             return Ok(ended);
         }
         let read = Line {
@@ -66,7 +66,7 @@ fn read_lines<R: BufRead, W: Write, E: Write>(
             if exact.run.is_strict {
                 return Ok(Ended::Stopped);
             }
-            ended = Ended::Faults;
+            ended = Ended::WithErrors;
         }
         if ending == Ending::Input {
             return Ok(ended);

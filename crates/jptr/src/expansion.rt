@@ -35,7 +35,7 @@ pub fn check_expansion(
     match scalar_above(alloc, text, *pointer) {
         Ok(None) => Ok(()),
         Ok(Some(_)) => {
-            let drawing = missing(alloc, *pointer, text.as_bytes());
+            let drawing = missing(alloc, text.as_bytes(), *pointer);
             Err(ProgramError::new(alloc, NOT_APPLIED, name, SCALAR).with_drawing(drawing))
         }
         Err(TaskError::NotJson) => Err(ProgramError::of_bytes(alloc, name, text.as_bytes())),

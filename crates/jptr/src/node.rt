@@ -69,7 +69,7 @@ fn key_lines(
     layout: Layout,
 ) -> Result<Option<String>, TaskError> {
     match keys_in_text(alloc, text, pointer)? {
-        Some(keys) => Ok(Some(lines_of_keys(alloc, layout, keys)?)),
+        Some(keys) => Ok(Some(lines_of_keys(alloc, keys, layout)?)),
         None => Ok(None),
     }
 }
@@ -125,12 +125,12 @@ fn passes(
 }
 
 /// Returns a line for each key, in this layout. A repeated key has one, where it comes first.
-fn lines_of_keys(alloc: Global, layout: Layout, keys: Vec<String>) -> Result<String, AllocError> {
+fn lines_of_keys(alloc: Global, keys: Vec<String>, layout: Layout) -> Result<String, AllocError> {
     let mut lines = String::new(alloc);
     let mut seen = Map::new(alloc);
     for key in keys {
         if !seen.contains_key(key.as_str()) {
-            push_line(alloc, layout, key.as_str(), &mut lines)?;
+            push_line(alloc, key.as_str(), layout, &mut lines)?;
             drop(seen.insert(key, Value::Null)?);
         }
     }
@@ -140,8 +140,8 @@ fn lines_of_keys(alloc: Global, layout: Layout, keys: Vec<String>) -> Result<Str
 /// Appends a line with the key in this layout.
 fn push_line(
     alloc: Global,
-    layout: Layout,
     key: &str,
+    layout: Layout,
     lines: &mut String,
 ) -> Result<(), AllocError> {
     let value = Value::String(String::from_str(alloc, key)?);

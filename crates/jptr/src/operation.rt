@@ -56,24 +56,24 @@ pub fn insert(rt: &HostRuntime, matches: &ArgMatches<'_>) -> Result<u8, ProgramE
 pub fn transfer(
     rt: &HostRuntime,
     matches: &ArgMatches<'_>,
-    name: &str,
+    command: &str,
 ) -> Result<u8, ProgramError> {
     let alloc = rt.alloc();
-    check_json(alloc, name, matches.get_str("FILE"))?;
+    check_json(alloc, command, matches.get_str("FILE"))?;
     let from = pointer_of(alloc, argument(matches, "FROM"))?;
     let path = pointer_of(alloc, argument(matches, "POINTER"))?;
-    run(rt, matches, &transfer_of(alloc, name, from, path)?)
+    run(rt, matches, &transfer_of(alloc, command, from, path)?)
 }
 
 /// Returns the operation that moves or copies a value.
 fn transfer_of<'a>(
     alloc: Global,
-    name: &str,
+    command: &str,
     from: Pointer<'a>,
     path: Pointer<'a>,
 ) -> Result<SingleOperation<'a>, AllocError> {
     let (old, new) = (quoted(alloc, from)?, quoted(alloc, path)?);
-    let patch = format!(in alloc; "[{{\"op\":\"{name}\",\"from\":{old},\"path\":{new}}}]")?;
+    let patch = format!(in alloc; "[{{\"op\":\"{command}\",\"from\":{old},\"path\":{new}}}]")?;
     Ok(SingleOperation {
         patch,
         from: Some(from),
@@ -161,7 +161,7 @@ fn patch_of(alloc: Global, patch: &str) -> Result<RawPatch, ProgramError> {
         // The value is JSON, but the patch with it nests two levels deeper.
         return Err(ProgramError::of_error(alloc, "JSON", "", TaskError::PatchTooDeep));
     };
-    match raw_patch(alloc, document, patch) {
+    match raw_patch(alloc, patch, document) {
         Ok(raw) => Ok(raw),
         Err(error) => Err(ProgramError::of_error(alloc, "JSON", "", error)),
     }

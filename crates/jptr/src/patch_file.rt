@@ -43,7 +43,7 @@ impl<'a> PatchFile<'a> {
     /// Returns the patch with the texts of its values.
     pub fn into_raw(self, alloc: Global) -> Result<RawPatch, ProgramError> {
         let PatchFile { source, document } = self;
-        match raw_patch(alloc, document, source.text(alloc)?) {
+        match raw_patch(alloc, source.text(alloc)?, document) {
             Ok(patch) => Ok(patch),
             Err(error) => Err(ProgramError::of_error(alloc, source.name, "", error)),
         }

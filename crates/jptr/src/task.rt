@@ -272,7 +272,7 @@ fn on_lines(
     let exact = ExactTask { run, style };
     match run_exact_lines(alloc, &exact, &mut input, &mut output, &mut errors) {
         Ok(Ended::Fine) => Ok(0),
-        Ok(Ended::Faults | Ended::Stopped) => Ok(NOT_APPLIED),
+        Ok(Ended::WithErrors | Ended::Stopped) => Ok(NOT_APPLIED),
         Err(TaskError::Read) => Err(input.get_ref().read_error(alloc, name_of(file))),
         Err(TaskError::Write) => Err(output.get_ref().error(alloc)),
         Err(error) => Err(ProgramError::of_error(alloc, name_of(file), "", error)),

@@ -67,7 +67,7 @@ pub record Parts (run : LineTask) (ls ks : List Text) (n : ℕ) (out err : Text)
   pub first : LinesGive run n ls o1 r1
   pub second : LinesGive run (n + length ls) ks o2 r2
   pub printed : out ≡ o1 ++ o2
-  pub told : err ≡ r1 ++ r2
+  pub reported : err ≡ r1 ++ r2
 
 gives_parts : (run : LineTask) (ls ks : List Text) (n : ℕ) (out err : Text) → LinesGive run n (ls ++ ks) out err → Parts run ls ks n out err
 gives_parts run [] ks n out err h =
@@ -80,7 +80,7 @@ gives_parts run [] ks n out err h =
       first = (refl, refl);
       second = subst (λ (m : ℕ). LinesGive run m ks out err) here h;
       printed = refl;
-      told = refl;
+      reported = refl;
     }
 gives_parts run (l ∷ ls) ks n out err h =
     let rest = gives_parts run ls ks (n + 1) h.2 h.3 h.5 in
@@ -93,7 +93,7 @@ gives_parts run (l ∷ ls) ks n out err h =
       first = (h.0, h.1, rest.o1, rest.r1, h.4, rest.first, refl, refl);
       second = subst (λ (m : ℕ). LinesGive run m ks rest.o2 rest.r2) later rest.second;
       printed = h.6 ∙ ap (λ (t : Text). h.0 ++ t) rest.printed ∙ sym (append_assoc h.0 rest.o1 rest.o2);
-      told = h.7 ∙ ap (λ (t : Text). h.1 ++ t) rest.told ∙ sym (append_assoc h.1 rest.r1 rest.r2);
+      reported = h.7 ∙ ap (λ (t : Text). h.1 ++ t) rest.reported ∙ sym (append_assoc h.1 rest.r1 rest.r2);
     }
 
 -- ---- with other numbers
@@ -166,7 +166,7 @@ runs_parted run b1 b2 ls out err ends lines all =
     let same : all.0 ≡ ls ++ ks.0 = one_lines all.0 (ls ++ ks.0) (b1 ++ b2) all.1 (both_lines ls ks.0 b1 b2 ends lines ks.1) in
     let p = gives_parts run ls ks.0 1 out err (subst (λ (ms : List Text). LinesGive run 1 ms out err) same all.2) in
     let n = lines_numbered run ks.0 1 (length ls) p.o2 p.r2 p.second in
-    (p.o1, p.r1, p.o2, reports (string_bytes run.name) 0 n.rs, p.r2, p.first, (ks.0, ks.1, n.for 0), (n.rs, refl, n.is), p.printed, p.told)
+    (p.o1, p.r1, p.o2, reports (string_bytes run.name) 0 n.rs, p.r2, p.first, (ks.0, ks.1, n.for 0), (n.rs, refl, n.is), p.printed, p.reported)
 
 some_reports : (name : Text) (k j : ℕ) (rs : List (ℕ × Text)) → reports name k rs ≡ [] → reports name j rs ≡ []
 some_reports name k j [] e = refl

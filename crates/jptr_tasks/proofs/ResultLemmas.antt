@@ -225,12 +225,12 @@ line_fault run l f e h same =
 pub fault_put : (run : LineTask) (n : ℕ) (l : Text) (w0 w1 e0 e1 : Known) (f : TaskError) (report : Text)
     → IsLineFault run.task run.layout l f → (IsBlank l → ⊥) → IsReport (string_bytes run.name) n report
     → Appends w0 w1 (fallback_line run.fallback) → Appends e0 e1 report → IsPut run n l w0 w1 e0 e1 false
-fault_put run n l w0 w1 e0 e1 f report fault filled is_report wrote told =
-    (fallback_line run.fallback, report, inr (inl (f, fault, filled, refl, is_report)), wrote, told, is_report)
+fault_put run n l w0 w1 e0 e1 f report fault filled is_report wrote reported =
+    (fallback_line run.fallback, report, inr (inl (f, fault, filled, refl, is_report)), wrote, reported, is_report)
 
 -- the write of a fault failed
 pub fault_stops : (run : LineTask) (n : ℕ) (l : Text) (w0 w1 e0 e1 : Known) (f : TaskError) (report : Text) (e : TaskError)
     → IsLineFault run.task run.layout l f → (IsBlank l → ⊥) → IsReport (string_bytes run.name) n report → e ≡ Write
     → AppendsPrefix w0 w1 (fallback_line run.fallback) → AppendsPrefix e0 e1 report → StopsPut run n l w0 w1 e0 e1 e
-fault_stops run n l w0 w1 e0 e1 f report e fault filled is_report is wrote told =
-    (subst StopsRun (sym is) tt, inr (fallback_line run.fallback, report, inr (inl (f, fault, filled, refl, is_report)), wrote, told))
+fault_stops run n l w0 w1 e0 e1 f report e fault filled is_report is wrote reported =
+    (subst StopsRun (sym is) tt, inr (fallback_line run.fallback, report, inr (inl (f, fault, filled, refl, is_report)), wrote, reported))

@@ -19,7 +19,7 @@ use Rattle.jptr_tasks.specs.declared.task_error.TaskError.{TaskError}
 use Rattle.jptr_tasks.specs.declared.task_error.TaskError.TheVariants.{Write}
 use Rattle.jptr_tasks.specs.declared.line.LineTask.{LineTask}
 use Rattle.jptr_tasks.specs.declared.lines.Ended.{Ended}
-use Rattle.jptr_tasks.specs.declared.lines.Ended.TheVariants.{Fine, Faults, Stopped}
+use Rattle.jptr_tasks.specs.declared.lines.Ended.TheVariants.{Fine, WithErrors, Stopped}
 use Rattle.jptr_tasks.specs.declared.lines.Turn.TheVariants.{Line, LastLine, NoLine}
 
 -- ---- texts
@@ -82,7 +82,7 @@ record Put (run : LineTask) (n : ℕ) (l : Text) (w0 w1 e0 e1 : Known) (fine : B
   err : Text
   gives : LineGives run n l out err
   written : Appends w0 w1 out
-  told : Appends e0 e1 err
+  reported : Appends e0 e1 err
   clean : fine ≡ true → err ≡ []
   report : fine ≡ false → IsReport (string_bytes run.name) n err
 
@@ -92,7 +92,7 @@ put_of run n l w0 w1 e0 e1 true h = record {
   err = [];
   gives = h.1;
   written = h.2;
-  told = Appends-kept e0 e0 e1 [] (Appends-nil e0) h.3;
+  reported = Appends-kept e0 e0 e1 [] (Appends-nil e0) h.3;
   clean = λ e. refl;
   report = λ e. cc;
 }
@@ -101,7 +101,7 @@ put_of run n l w0 w1 e0 e1 false h = record {
   err = h.1;
   gives = h.2;
   written = h.3;
-  told = h.4;
+  reported = h.4;
   clean = λ e. cc;
   report = λ e. h.5;
 }
@@ -177,7 +177,7 @@ start run r w e = record {
   gives = (refl, refl);
   read = Consumes-nil r;
   written = Appends-nil w;
-  told = Appends-nil e;
+  reported = Appends-nil e;
   clean = λ p. refl;
   faults = λ p. cc;
   strict = λ p. refl;
@@ -203,7 +203,7 @@ module _ (run : LineTask) (n : ℕ) (fine : Bool) (r0 r w0 w e0 e : Known) (p : 
           gives = gives_push run p.lines 1 n p.out p.err t.0 put.out put.err (next_number n (length p.lines) p.count) p.gives put.gives;
           read = with_next r0 r p.lines p.are p.read r1 t.0 t.1;
           written = Appends-trans w0 w w1 p.out put.out p.written put.written;
-          told = Appends-trans e0 e e1 p.err put.err p.told put.told;
+          reported = Appends-trans e0 e e1 p.err put.err p.reported put.reported;
           clean = clean_both fine f p.err put.err p.clean put.clean;
           faults = faults_both fine f p.err put.err p.faults (λ x. report_some (string_bytes run.name) n put.err (put.report x));
           strict = strict;
@@ -216,7 +216,7 @@ module _ (run : LineTask) (n : ℕ) (fine : Bool) (r0 r w0 w e0 e : Known) (p : 
     -- no further line
     pub end_run : IsTurn run n r r1 w w1 e e1 NoLine → IsRun run r0 w0 w1 e0 e1 (ended_as fine)
     end_run t = for_map r0 (λ bytes. AreLines bytes p.lines) _
-        (λ bytes are. (p.lines, p.out, p.err, end_as bytes p.lines p.err fine are p.clean p.faults, p.gives, Appends-kept w0 w w1 p.out p.written t.1, Appends-kept e0 e e1 p.err p.told t.2))
+        (λ bytes are. (p.lines, p.out, p.err, end_as bytes p.lines p.err fine are p.clean p.faults, p.gives, Appends-kept w0 w w1 p.out p.written t.1, Appends-kept e0 e e1 p.err p.reported t.2))
         (all_lines r0 r p.lines p.are p.read t.0)
 
     -- the last line, without a line break
@@ -234,7 +234,7 @@ module _ (run : LineTask) (n : ℕ) (fine : Bool) (r0 r w0 w e0 e : Known) (p : 
           end_as bytes (p.lines ++ t.0 ∷ []) (p.err ++ put.err) (fine && f) are clean faults,
           gives,
           Appends-trans w0 w w1 p.out put.out p.written put.written,
-          Appends-trans e0 e e1 p.err put.err p.told put.told,
+          Appends-trans e0 e e1 p.err put.err p.reported put.reported,
         ))
         (with_last r0 r p.lines p.are p.read r1 t.0 t.1)
 
@@ -245,8 +245,8 @@ module _ (run : LineTask) (n : ℕ) (fine : Bool) (r0 r w0 w e0 e : Known) (p : 
         let gives = gives_push run p.lines 1 n p.out p.err t.0 put.out put.err (next_number n (length p.lines) p.count) p.gives put.gives in
         let alone : put.err ≡ p.err ++ put.err = ap (λ (x : Text). x ++ put.err) (sym (p.clean (p.strict strict))) in
         let name = string_bytes run.name in
-        let told : IsReport name n put.err = put.report refl in
-        let report : IsReport name (length (p.lines ++ t.0 ∷ [])) (p.err ++ put.err) = subst (IsReport name (length (p.lines ++ t.0 ∷ []))) alone (subst (λ (k : ℕ). IsReport name k put.err) (push_count p.lines t.0 n p.count) told) in
+        let reported : IsReport name n put.err = put.report refl in
+        let report : IsReport name (length (p.lines ++ t.0 ∷ [])) (p.err ++ put.err) = subst (IsReport name (length (p.lines ++ t.0 ∷ []))) alone (subst (λ (k : ℕ). IsReport name k put.err) (push_count p.lines t.0 n p.count) reported) in
         for_map r0 (λ bytes. AreFirstLines bytes (p.lines ++ t.0 ∷ [])) _
         (λ bytes first. (
           p.lines ++ t.0 ∷ [],
@@ -255,7 +255,7 @@ module _ (run : LineTask) (n : ℕ) (fine : Bool) (r0 r w0 w e0 e : Known) (p : 
           (first, strict, report),
           gives,
           Appends-trans w0 w w1 p.out put.out p.written put.written,
-          Appends-trans e0 e e1 p.err put.err p.told put.told,
+          Appends-trans e0 e e1 p.err put.err p.reported put.reported,
         ))
         (first_lines r0 r1 (p.lines ++ t.0 ∷ []) (all_lines-push p.lines t.0 p.are t.1.0) (with_next r0 r p.lines p.are p.read r1 t.0 t.1))
 
@@ -268,7 +268,7 @@ module _ (run : LineTask) (n : ℕ) (fine : Bool) (r0 r w0 w e0 e : Known) (p : 
 
         before : Keeps w w1 × Keeps e e1 → ForInput r0 Left
         before k = for_map r0 (λ bytes. AreFirstLines bytes p.lines) Left
-            (λ bytes first. (p.lines, p.out, p.err, first, p.gives, prefix_kept w0 w w1 p.out (prefix_all w0 w p.out p.written) k.0, prefix_kept e0 e e1 p.err (prefix_all e0 e p.err p.told) k.1))
+            (λ bytes first. (p.lines, p.out, p.err, first, p.gives, prefix_kept w0 w w1 p.out (prefix_all w0 w p.out p.written) k.0, prefix_kept e0 e e1 p.err (prefix_all e0 e p.err p.reported) k.1))
             (first_lines r0 r p.lines p.are p.read)
 
         first_with : (l : Text) → IsNextLine r r1 l Break ⊎ IsNextLine r r1 l Input → ForInput r0 (λ bytes. AreFirstLines bytes (p.lines ++ l ∷ []))
@@ -285,7 +285,7 @@ module _ (run : LineTask) (n : ℕ) (fine : Bool) (r0 r w0 w e0 e : Known) (p : 
               first,
               gives_push run p.lines 1 n p.out p.err h.0 h.1 h.2 (next_number n (length p.lines) p.count) p.gives h.4,
               prefix_after w0 w w1 p.out h.1 p.written h.5,
-              prefix_after e0 e e1 p.err h.2 p.told h.6,
+              prefix_after e0 e e1 p.err h.2 p.reported h.6,
             ))
             (first_with h.0 h.3)
 
@@ -294,7 +294,7 @@ module _ (run : LineTask) (n : ℕ) (fine : Bool) (r0 r w0 w e0 e : Known) (p : 
   give_up x stops = (
     stops,
     for_map r0 (λ bytes. AreFirstLines bytes p.lines) _
-        (λ bytes first. (p.lines, p.out, p.err, first, p.gives, prefix_all w0 w p.out p.written, prefix_all e0 e p.err p.told))
+        (λ bytes first. (p.lines, p.out, p.err, first, p.gives, prefix_all w0 w p.out p.written, prefix_all e0 e p.err p.reported))
         (first_lines r0 r p.lines p.are p.read),
   )
 
@@ -309,7 +309,7 @@ module _ (run : LineTask) (r0 w0 w1 w2 e0 e1 e2 : Known) (kw : Keeps w1 w2) (ke 
 
   first_of : (bytes : Text) (ls : List Text) (err : Text) (ended : Ended) → IsEnd run bytes ls err ended → AreFirstLines bytes ls
   first_of bytes ls err Fine h = are_first bytes ls h.0
-  first_of bytes ls err Faults h = are_first bytes ls h.0
+  first_of bytes ls err WithErrors h = are_first bytes ls h.0
   first_of bytes ls err Stopped h = h.0
 
   -- the run ended, and the flush failed

@@ -22,7 +22,8 @@ IsDifference n m layout d =
     × (read (string_bytes d.text) ≡ Some (document_of os))
     × ((d.is_empty ≡ true) ↔ (os ≡ []))
 
--- `FailsToDiffer n m e`: `e` is why no patch document of operations that turn `n` into `m` is printed, if it is not for memory
+-- `FailsToDiffer n m e`: `e` is why no patch document of operations that turn `n` into `m` is printed, unless an
+-- allocation failed
 abbrev pub FailsToDiffer : NodeMap → NodeMap → TaskError → Type 0
 FailsToDiffer n m PatchTooDeep = (os : List Operation) × Patches n os m × (max_depth < depth (document_of os))
 FailsToDiffer n m (Memory f) = ⊤

@@ -26,8 +26,8 @@ Prints task layout bytes out =
     × ((EndsInBreak task layout × ((new : Text) × Yields task layout bytes new × (out ≡ new ++ 10 ∷ [])))
     ⊎ ((EndsInBreak task layout → ⊥) × Yields task layout bytes out))
 
--- `TaskFailsOn task layout bytes e`: `e` is why the task has no result on the document `bytes`, if it is not for memory. Bytes that
--- are not UTF-8 are not JSON
+-- `TaskFailsOn task layout bytes e`: `e` is why the task has no result on the document `bytes`, unless an allocation
+-- failed. Bytes that are not UTF-8 are not JSON
 abbrev pub TaskFailsOn : Task → Layout → List ℕ → TaskError → Type 0
 TaskFailsOn task layout bytes NotJson = IsUtf8 bytes → Fails task layout bytes NotJson
 TaskFailsOn task layout bytes (Memory e) = ⊤

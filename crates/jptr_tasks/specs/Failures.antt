@@ -14,10 +14,10 @@ use Rattle.jsonptr_edit_in_text.specs.declared.edited.EditError.{EditError}
 use Rattle.jsonptr_edit_in_text.specs.declared.edited.EditError.TheVariants as edit
 use Rattle.jsonptr_edit_in_text.specs.declared.in_place.InPlaceError.{InPlaceError}
 use Rattle.jsonptr_edit_in_text.specs.declared.in_place.InPlaceError.TheVariants as in_place
-use Rattle.jsonptr_paths.specs.declared.reading.LineError.{LineError}
-use Rattle.jsonptr_paths.specs.declared.reading.LineError.TheVariants as line
-use Rattle.jsonptr_paths.specs.declared.reading.BuildError.{BuildError}
-use Rattle.jsonptr_paths.specs.declared.reading.BuildError.TheVariants as build
+use Rattle.jsonptr_paths.specs.declared.build.LineError.{LineError}
+use Rattle.jsonptr_paths.specs.declared.build.LineError.TheVariants as line
+use Rattle.jsonptr_paths.specs.declared.build.BuildError.{BuildError}
+use Rattle.jsonptr_paths.specs.declared.build.BuildError.TheVariants as build
 use Rattle.jptr_tasks.specs.declared.task_error.TaskError.{TaskError}
 use Rattle.jptr_tasks.specs.declared.task_error.TaskError.TheVariants.{NotPatch, Resolve, Assign, NotThere, PatchFailed, TooDeep, NotInPlace, NotLocated, PatchTooDeep, LineBreak, BadLine, NotUtf8, NotJson, Memory, Read, Write}
 

@@ -24,8 +24,8 @@ IsInverse text patch layout u =
     × (read text ≡ Some d) × IsPatch patch os × PatchesBy Numeric (nodes d) os m
     × IsDifference m (nodes d) layout u
 
--- `FailsToInvert text patch e`: `e` is why no patch is printed that takes `patch` back, if it is not for memory. The document
--- `patch` is read first
+-- `FailsToInvert text patch e`: `e` is why no patch is printed that takes `patch` back, unless an allocation failed.
+-- The document `patch` is read first
 abbrev pub FailsToInvert : Text → Data → TaskError → Type 0
 FailsToInvert text patch (NotPatch f) = IsNoPatch patch f
 FailsToInvert text patch NotJson = ((os : List Operation) × IsPatch patch os) × (read text ≡ None)

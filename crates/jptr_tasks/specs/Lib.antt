@@ -11,7 +11,7 @@ pub mod LineResults
 pub mod OneError
 pub mod Runs
 pub mod Cutting
--- Replacing the text of a file.
+-- Replacing the text of a file
 pub mod Replacement
 pub mod PrivateReplacement
 pub mod PrivateNodes

@@ -56,14 +56,15 @@ HasKeysAt text ts found =
 abbrev pub Tests : Text → List Text → Data → Bool → Type 0
 Tests text ts v b = (d : Data) × FindsInText text ts d × (IsTrue b ↔ IsEqualBy Numeric (nodes d) (nodes v))
 
--- `FailsToFind text ts e`: `e` is why no value is found, if it is not for memory
+-- `FailsToFind text ts e`: `e` is why no value is found, unless an allocation failed
 abbrev pub FailsToFind : Text → List Text → TaskError → Type 0
 FailsToFind text ts NotJson = read text ≡ None
 FailsToFind text ts (Resolve f) = RefusesInText text ts f
 FailsToFind text ts (Memory f) = ⊤
 FailsToFind text ts e = ⊥
 
--- `FailsToListKeys text ts e`: `e` is why no keys are listed, if it is not for memory. With `NotLocated` the value is there
+-- `FailsToListKeys text ts e`: `e` is why no keys are listed, unless an allocation failed. With `NotLocated` the value
+-- is there
 abbrev pub FailsToListKeys : Text → List Text → TaskError → Type 0
 FailsToListKeys text ts NotLocated = (d : Data) × FindsInText text ts d
 FailsToListKeys text ts e = FailsToFind text ts e
@@ -85,6 +86,6 @@ HasAbove text ts found =
     ⊎ ((front : List Text) × (last : Text) × (t : NodeType)
     × (ts ≡ front ++ last ∷ []) × HasType text front t × (found ≡ scalar_type t))
 
--- `FailsAbove text ts e`: `e` is why all but the last of the tokens `ts` identify no value, if it is not for memory
+-- `FailsAbove text ts e`: `e` is why all but the last of the tokens `ts` identify no value, unless an allocation failed
 abbrev pub FailsAbove : Text → List Text → TaskError → Type 0
 FailsAbove text ts e = (front : List Text) × (last : Text) × (ts ≡ front ++ last ∷ []) × FailsToFind text front e

@@ -8,9 +8,9 @@ use Rattle.jsonptr.specs.Text.{Text}
 use Rattle.jsonptr.specs.Json.{nodes, HasSortedKeys}
 use Rattle.jsonptr_io.specs.Streams.{ForInput, AppendsPrefix}
 use Rattle.jsonptr_paths.specs.Listing.{Lists}
-use Rattle.jsonptr_paths.specs.Reading.{Builds, StopsBuilding}
+use Rattle.jsonptr_paths.specs.Building.{Builds, StopsBuilding}
 use Rattle.jsonptr_paths.specs.declared.listing.Listed.{Listed}
-use Rattle.jsonptr_paths.specs.declared.reading.BuildError.TheVariants.{Line}
+use Rattle.jsonptr_paths.specs.declared.build.BuildError.TheVariants.{Line}
 use Rattle.jptr_tasks.specs.Layouts.{ShowsInLayout, ReadsBack}
 use Rattle.jptr_tasks.specs.declared.task_error.TaskError.{TaskError}
 use Rattle.jptr_tasks.specs.declared.task_error.TaskError.TheVariants.{NotJson, NotUtf8, BadLine, Memory, Read, Write}
@@ -20,7 +20,7 @@ use Rattle.jptr_tasks.specs.declared.layout.Layout.{Layout}
 abbrev pub ListsText : Listed → List ℕ → Text → Type 0
 ListsText which bytes out = (d : Data) × IsUtf8 bytes × (read bytes ≡ Some d) × Lists which d out
 
--- `FailsToList bytes e`: `e` is why the document `bytes` is not listed, if it is not for memory
+-- `FailsToList bytes e`: `e` is why the document `bytes` is not listed, unless an allocation failed
 abbrev pub FailsToList : List ℕ → TaskError → Type 0
 FailsToList bytes NotJson = IsUtf8 bytes → read bytes ≡ None
 FailsToList bytes (Memory f) = ⊤
@@ -34,7 +34,7 @@ BuildsText layout bytes out =
     × IsUtf8 bytes × Builds bytes (nodes d) × HasSortedKeys d × ShowsInLayout layout d shown × ReadsBack layout d shown
     × (out ≡ shown ++ 10 ∷ [])
 
--- `FailsToBuild bytes e`: `e` is why the lines `bytes` build no document, if it is not for memory
+-- `FailsToBuild bytes e`: `e` is why the lines `bytes` build no document, unless an allocation failed
 abbrev pub FailsToBuild : List ℕ → TaskError → Type 0
 FailsToBuild bytes NotUtf8 = IsUtf8 bytes → ⊥
 FailsToBuild bytes (BadLine number e) = IsUtf8 bytes × StopsBuilding bytes (Line number e)

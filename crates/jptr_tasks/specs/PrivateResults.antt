@@ -32,20 +32,20 @@ PatchedBy text patch new = (os : List Operation) × IsPatch patch os × PatchesI
 abbrev pub ReadsSame : Text → Text → Type 0
 ReadsSame text new = (d : Data) × (read text ≡ Some d) × ReadsAs new (nodes d)
 
--- `IsLayoutError text e`: `e` is why the document of `text` is not printed, if it is not for memory
+-- `IsLayoutError text e`: `e` is why the document of `text` is not printed, unless an allocation failed
 abbrev pub IsLayoutError : Text → TaskError → Type 0
 IsLayoutError text NotJson = read text ≡ None
 IsLayoutError text (Memory f) = ⊤
 IsLayoutError text e = ⊥
 
--- `IsNotPatch patch e`: `e` is why the document `patch` is not read as a patch, if it is not for memory
+-- `IsNotPatch patch e`: `e` is why the document `patch` is not read as a patch, unless an allocation failed
 abbrev pub IsNotPatch : Data → TaskError → Type 0
 IsNotPatch patch (NotPatch f) = IsNoPatch patch f
 IsNotPatch patch (Memory f) = ⊤
 IsNotPatch patch e = ⊥
 
--- `FailsToApply text os layout e`: `e` is why the operations `os` are not applied, if it is not for memory. With `NotInPlace` they
--- apply, but not in place
+-- `FailsToApply text os layout e`: `e` is why the operations `os` are not applied, unless an allocation failed. With
+-- `NotInPlace` they apply, but not in place
 abbrev pub FailsToApply : Text → List Operation → Layout → TaskError → Type 0
 FailsToApply text os layout NotJson = read text ≡ None
 FailsToApply text os layout (PatchFailed f) = (d : Data) × (read text ≡ Some d) × RefusesPatchBy Numeric (nodes d) os f
@@ -54,13 +54,14 @@ FailsToApply text os layout NotInPlace = (layout ≡ Kept) × ((new : Text) × P
 FailsToApply text os layout (Memory f) = ⊤
 FailsToApply text os layout e = ⊥
 
--- `IsPatchTextFault os e`: `e` is why the patch document of the operations `os` is not printed, if it is not for memory
+-- `IsPatchTextFault os e`: `e` is why the patch document of the operations `os` is not printed, unless an allocation
+-- failed
 abbrev pub IsPatchTextFault : List Operation → TaskError → Type 0
 IsPatchTextFault os PatchTooDeep = max_depth < depth (document_of os)
 IsPatchTextFault os (Memory f) = ⊤
 IsPatchTextFault os e = ⊥
 
--- `IsApplyFault n os e`: `e` is why the operations `os` are not applied to `n`, if it is not for memory
+-- `IsApplyFault n os e`: `e` is why the operations `os` are not applied to `n`, unless an allocation failed
 abbrev pub IsApplyFault : NodeMap → List Operation → TaskError → Type 0
 IsApplyFault n os (PatchFailed f) = RefusesPatchBy Numeric n os f
 IsApplyFault n os (Memory f) = ⊤

@@ -11,14 +11,14 @@ use Rattle.jptr_tasks.specs.PrivateLineResults.{Known, IsPut}
 use Rattle.jptr_tasks.specs.declared.task_error.TaskError.{TaskError}
 use Rattle.jptr_tasks.specs.declared.line.LineTask.{LineTask}
 use Rattle.jptr_tasks.specs.declared.lines.Ended.{Ended}
-use Rattle.jptr_tasks.specs.declared.lines.Ended.TheVariants.{Fine, Faults}
+use Rattle.jptr_tasks.specs.declared.lines.Ended.TheVariants.{Fine, WithErrors}
 use Rattle.jptr_tasks.specs.declared.lines.Turn.{Turn}
 use Rattle.jptr_tasks.specs.declared.lines.Turn.TheVariants.{Line, LastLine, NoLine}
 
 -- `ended_as fine`: how a run ends after its last line
 abbrev pub ended_as : Bool → Ended
 ended_as true = Fine
-ended_as false = Faults
+ended_as false = WithErrors
 
 -- `IsTurn run n r0 r1 w0 w1 e0 e1 t`: the next line, with the number `n`, is read, and what it gives is written
 abbrev pub IsTurn : LineTask → ℕ → Known → Known → Known → Known → Known → Known → Turn → Type 0
@@ -50,7 +50,7 @@ pub record RunProgress (run : LineTask) (n : ℕ) (fine : Bool) (r0 r w0 w e0 e 
   pub gives : LinesGive run 1 lines out err
   pub read : Consumes r0 r (joined lines)
   pub written : Appends w0 w out
-  pub told : Appends e0 e err
+  pub reported : Appends e0 e err
   pub clean : fine ≡ true → err ≡ []
   pub faults : fine ≡ false → err ≢ []
   pub strict : run.is_strict ≡ true → fine ≡ true

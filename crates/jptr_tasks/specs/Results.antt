@@ -84,7 +84,8 @@ Yields (Set p v) layout text out = Sets text (tokens p) v layout out
 Yields (Delete p) layout text out = DeletesInLayout text (tokens p) layout out
 Yields (Patch p) layout text out = PatchesRawInLayout text p layout out
 
--- `FailsToGet text ts fallback e`: `e` is why no value is found, if it is not for memory. With `NotLocated` the value is there
+-- `FailsToGet text ts fallback e`: `e` is why no value is found, unless an allocation failed. With `NotLocated` the
+-- value is there
 abbrev pub FailsToGet : Text → List Text → Option Value → TaskError → Type 0
 FailsToGet text ts fallback NotJson = read text ≡ None
 FailsToGet text ts fallback (Resolve f) = (fallback ≡ None) × RefusesInText text ts f
@@ -92,8 +93,8 @@ FailsToGet text ts fallback NotLocated = (v : Data) × FindsInText text ts v
 FailsToGet text ts fallback (Memory f) = ⊤
 FailsToGet text ts fallback e = ⊥
 
--- `FailsToSet text ts v layout e`: `e` is why `v` is not assigned at the tokens, if it is not for memory. With `NotInPlace` the
--- assignment is possible, but not in place
+-- `FailsToSet text ts v layout e`: `e` is why `v` is not assigned at the tokens, unless an allocation failed. With
+-- `NotInPlace` the assignment is possible, but not in place
 abbrev pub FailsToSet : Text → List Text → Data → Layout → TaskError → Type 0
 FailsToSet text ts v layout NotJson = read text ≡ None
 FailsToSet text ts v layout (Assign f) = IsAssignError text ts v (edit.Refused f)
@@ -102,8 +103,8 @@ FailsToSet text ts v layout NotInPlace = (layout ≡ Kept) × ((new : Text) × A
 FailsToSet text ts v layout (Memory f) = ⊤
 FailsToSet text ts v layout e = ⊥
 
--- `FailsToDelete text ts layout e`: `e` is why nothing is deleted, if it is not for memory. With `NotInPlace` the deletion is
--- possible, but not in place
+-- `FailsToDelete text ts layout e`: `e` is why nothing is deleted, unless an allocation failed. With `NotInPlace` the
+-- deletion is possible, but not in place
 abbrev pub FailsToDelete : Text → List Text → Layout → TaskError → Type 0
 FailsToDelete text ts layout NotJson = read text ≡ None
 FailsToDelete text ts layout NotThere = LacksInText text ts
@@ -111,8 +112,8 @@ FailsToDelete text ts layout NotInPlace = (layout ≡ Kept) × ((new : Text) × 
 FailsToDelete text ts layout (Memory f) = ⊤
 FailsToDelete text ts layout e = ⊥
 
--- `FailsToPatch text patch layout e`: `e` is why the patch is not applied, if it is not for memory. The document `patch` is read
--- first. With `NotInPlace` the operations apply, but not in place
+-- `FailsToPatch text patch layout e`: `e` is why the patch is not applied, unless an allocation failed. The document
+-- `patch` is read first. With `NotInPlace` the operations apply, but not in place
 abbrev pub FailsToPatch : Text → Data → Layout → TaskError → Type 0
 FailsToPatch text patch layout (NotPatch f) = IsNoPatch patch f
 FailsToPatch text patch layout NotJson = ((os : List Operation) × IsPatch patch os) × (read text ≡ None)
@@ -126,15 +127,15 @@ FailsToPatch text patch layout NotInPlace =
 FailsToPatch text patch layout (Memory f) = ⊤
 FailsToPatch text patch layout e = ⊥
 
--- `FailsToReadPatch patch e`: `e` is why the patch of the document `patch` is not read with the texts of its values, if it is
--- not for memory. With `NotLocated` the document is a patch
+-- `FailsToReadPatch patch e`: `e` is why the patch of the document `patch` is not read with the texts of its values,
+-- unless an allocation failed. With `NotLocated` the document is a patch
 abbrev pub FailsToReadPatch : Data → TaskError → Type 0
 FailsToReadPatch patch (NotPatch f) = IsNoPatch patch f
 FailsToReadPatch patch NotLocated = (os : List Operation) × IsPatch patch os
 FailsToReadPatch patch (Memory f) = ⊤
 FailsToReadPatch patch e = ⊥
 
--- `Fails task layout text e`: `e` is why the task has no result on `text`, if it is not for memory
+-- `Fails task layout text e`: `e` is why the task has no result on `text`, unless an allocation failed
 abbrev pub Fails : Task → Layout → Text → TaskError → Type 0
 Fails (Get p fallback) layout text e = FailsToGet text (tokens p) fallback e
 Fails (Set p v) layout text e = FailsToSet text (tokens p) (value_of_raw v) layout e

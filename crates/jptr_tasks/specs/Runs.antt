@@ -8,7 +8,7 @@ use Rattle.jptr_tasks.specs.LineResults.{LinesGive, IsReport, StopsRun}
 use Rattle.jptr_tasks.specs.declared.task_error.TaskError.{TaskError}
 use Rattle.jptr_tasks.specs.declared.line.LineTask.{LineTask}
 use Rattle.jptr_tasks.specs.declared.lines.Ended.{Ended}
-use Rattle.jptr_tasks.specs.declared.lines.Ended.TheVariants.{Fine, Faults, Stopped}
+use Rattle.jptr_tasks.specs.declared.lines.Ended.TheVariants.{Fine, WithErrors, Stopped}
 
 -- `AreFirstLines bytes ls`: `ls` are the first lines of the input `bytes`, or all of them
 abbrev pub AreFirstLines : List ℕ → List Text → Type 0
@@ -18,7 +18,7 @@ AreFirstLines bytes ls = (more : List Text) × AreLines bytes (ls ++ more)
 -- reported. A run that stopped has reported its last line alone
 abbrev pub IsEnd : LineTask → List ℕ → List Text → Text → Ended → Type 0
 IsEnd run bytes ls err Fine = AreLines bytes ls × (err ≡ [])
-IsEnd run bytes ls err Faults = AreLines bytes ls × (err ≢ [])
+IsEnd run bytes ls err WithErrors = AreLines bytes ls × (err ≢ [])
 IsEnd run bytes ls err Stopped =
     AreFirstLines bytes ls × (run.is_strict ≡ true) × IsReport (string_bytes run.name) (length ls) err
 

@@ -18,8 +18,8 @@ use std::alloc::Global;
 
 /// Assigns the value at the pointer in the text, and returns the new document in this layout.
 ///
-/// With [`Layout::Kept`] the text is edited in place. In the other layouts the tokens of that text are
-/// laid out anew.
+/// With [`Layout::Kept`] the text is edited in place. In another layout the new text is laid out as
+/// [`Layout`] says.
 ///
 /// # Errors
 ///
@@ -28,17 +28,17 @@ pub fn set(
     buffers: &mut Buffers,
     text: &str,
     pointer: Pointer<'_>,
-    value: &RawValue,
+    raw: &RawValue,
     layout: Layout,
 ) -> Result<String, TaskError>
-    ensures assigned { IfOk result (λ s. Sets text.now (tokens pointer.entry) value.now layout
+    ensures assigned { IfOk result (λ s. Sets text.now (tokens pointer.entry) raw.now layout
         (string_bytes s)) }
     ensures refused { IfErr result
-        (FailsToSet text.now (tokens pointer.entry) (value_of_raw value.now) layout) }
+        (FailsToSet text.now (tokens pointer.entry) (value_of_raw raw.now) layout) }
 {
     match layout {
-        Layout::Kept => set_in_place(buffers, text, pointer, value),
-        _ => set_anew(buffers, text, pointer, value, layout),
+        Layout::Kept => set_in_place(buffers, text, pointer, raw),
+        _ => set_anew(buffers, text, pointer, raw, layout),
     }
 }
 
@@ -47,15 +47,15 @@ fn set_in_place(
     buffers: &mut Buffers,
     text: &str,
     pointer: Pointer<'_>,
-    value: &RawValue,
+    raw: &RawValue,
 ) -> Result<String, TaskError>
-    ensures assigned { IfOk result (λ s. Sets text.now (tokens pointer.entry) value.now
+    ensures assigned { IfOk result (λ s. Sets text.now (tokens pointer.entry) raw.now
         Layout.Kept (string_bytes s)) }
     ensures refused { IfErr result
-        (FailsToSet text.now (tokens pointer.entry) (value_of_raw value.now) Layout.Kept) }
+        (FailsToSet text.now (tokens pointer.entry) (value_of_raw raw.now) Layout.Kept) }
 {
-    let alloc = *value.text.flat.allocator();
-    match assign_raw_in_place(alloc, buffers, text, pointer, value) {
+    let alloc = *raw.text.flat.allocator();
+    match assign_raw_in_place(alloc, buffers, text, pointer, raw) {
         Ok(new) => Ok(new),
         Err(error) => Err(TaskError::from(error)),
     }
@@ -66,25 +66,25 @@ fn set_anew(
     buffers: &mut Buffers,
     text: &str,
     pointer: Pointer<'_>,
-    value: &RawValue,
+    raw: &RawValue,
     layout: Layout,
 ) -> Result<String, TaskError>
     ensures assigned { IfOk result (λ s. Remakes
-        (AssignsInText text.now (tokens pointer.entry) (nodes (value_of_raw value.now))) layout
+        (AssignsInText text.now (tokens pointer.entry) (nodes (value_of_raw raw.now))) layout
         (string_bytes s)) }
     ensures refused { IfErr result
-        (FailsToSet text.now (tokens pointer.entry) (value_of_raw value.now) layout) }
+        (FailsToSet text.now (tokens pointer.entry) (value_of_raw raw.now) layout) }
 {
-    let alloc = *value.text.flat.allocator();
-    let edited = assign_raw_in_text_with(alloc, buffers, text, pointer, value)?;
+    let alloc = *raw.text.flat.allocator();
+    let edited = assign_raw_in_text_with(alloc, buffers, text, pointer, raw)?;
     lay_out(alloc, &mut buffers.old, edited.as_str(), layout)
 }
 
 /// Deletes the value that the pointer resolves to in the text, and returns the new document in this
 /// layout.
 ///
-/// With [`Layout::Kept`] the text is edited in place. In the other layouts the tokens of that text are
-/// laid out anew.
+/// With [`Layout::Kept`] the text is edited in place. In another layout the new text is laid out as
+/// [`Layout`] says.
 ///
 /// # Errors
 ///

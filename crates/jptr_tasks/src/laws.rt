@@ -13,7 +13,7 @@ ghost use Rattle.jsonptr_io.specs.Lines.{AreLines};
 ghost use Rattle.jsonptr_patch_document.specs.Document.{IsNoPatch};
 ghost use Rattle.jsonptr_patch_document.specs.declared.error.PatchDocumentError.{PatchDocumentError};
 ghost use Rattle.jsonptr_paths.specs.declared.listing.Listed.TheVariants.{AllNodes};
-ghost use Rattle.jsonptr_paths.specs.declared.reading.LineError.{LineError};
+ghost use Rattle.jsonptr_paths.specs.declared.build.LineError.{LineError};
 ghost use Rattle.jptr_tasks.specs.Cutting.{EndsInLineFeed, InputGives, IsShifted};
 ghost use Rattle.jptr_tasks.specs.Documents.{TaskFailsOn};
 ghost use Rattle.jptr_tasks.specs.LineResults.{IsLineFault, LinesGive, StopsRun};

@@ -64,7 +64,7 @@ fn show_raw(alloc: Global, value: &Value) -> Result<String, AllocError>
     }
 }
 
-/// Returns the JSON text in this layout. With [`Layout::Kept`] that is the unchanged text.
+/// Returns the JSON text in this layout, as [`Layout`] says.
 ///
 /// # Errors
 ///

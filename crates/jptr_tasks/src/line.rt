@@ -107,8 +107,8 @@ fn line_result(
     Ok(new)
 }
 
-/// Returns the failure again if it is a fault of the line, and as an error if it is a failed
-/// allocation.
+/// Returns the error again if it is a fault of the line, and as the error of the run if an allocation
+/// failed.
 fn fault_of_line(error: TaskError) -> Result<TaskError, TaskError>
     ensures reported { IfOk result (λ e. (e ≡ error) × IsNoMemory e) }
     ensures refused { IfErr result StopsRun }

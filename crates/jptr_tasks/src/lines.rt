@@ -19,7 +19,7 @@ pub enum Ended {
     /// After the last line, and each line has a result.
     Fine,
     /// After the last line, and some line is at fault.
-    Faults,
+    WithErrors,
     /// At the first line at fault, since the run is strict.
     Stopped,
 }
@@ -78,7 +78,7 @@ enum Turn {
 /// let mut output = Vec::new(alloc);
 /// let mut errors = Vec::new(alloc);
 /// let ended = run_lines(alloc, &run, &mut input, &mut output, &mut errors)?;
-/// assert_eq!(rt; ended, Ended::Faults);
+/// assert_eq!(rt; ended, Ended::WithErrors);
 /// assert_eq!(rt; output.as_slice(), b"1\n".as_slice());
 /// assert!(rt; errors.as_slice().starts_with(b"input:2: "));
 /// ```
@@ -135,7 +135,8 @@ fn read_lines<R: io::BufRead, W: io::Write, E: io::Write>(
     Err(TaskError::Read)
 }
 
-/// Returns whether both parts of a run are fine.
+/// Returns whether both parts of a run are fine. A function of its own, as those below, so that the proof
+/// of the loop can name it.
 fn both(is_first_fine: bool, is_second_fine: bool) -> bool
     ensures { result ≡ (is_first_fine && is_second_fine) }
 {
@@ -153,7 +154,11 @@ fn stops(is_strict: bool, is_fine: bool) -> bool
 fn end_of(is_fine: bool) -> Ended
     ensures { result ≡ ended_as is_fine }
 {
-    if is_fine { Ended::Fine } else { Ended::Faults }
+    if is_fine {
+        Ended::Fine
+    } else {
+        Ended::WithErrors
+    }
 }
 
 /// Reads the next line, which has the number of the state, and writes its result.
@@ -172,7 +177,7 @@ fn take_turn<R: io::BufRead, W: io::Write, E: io::Write>(
         (E.contents errors.old) (E.contents errors.new)) }
 {
     match next_line(input, &mut state.bytes)? {
-        Ending::Nothing => Ok(Turn::NoLine),
+        Ending::NoLine => Ok(Turn::NoLine),
         Ending::Break => {
             let is_fine = put_read(run, state, output, errors)?;
             Ok(Turn::Line(is_fine))

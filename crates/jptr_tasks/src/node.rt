@@ -16,7 +16,7 @@ use jsonptr_json_search::skip::skip;
 use jsonptr_patch::{Comparison, is_equal};
 use jsonptr_value::{MAX_DEPTH, NodeType, ReadError, if_json, length, node_type};
 use serde_json::Value;
-use std::alloc::{AllocError, Global};
+use std::alloc::Global;
 
 /// Returns the type of the value that the pointer resolves to in the text of a document.
 ///

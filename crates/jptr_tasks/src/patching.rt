@@ -58,17 +58,17 @@ pub fn patch(
 ///
 /// ```rust
 /// let text = r#"[{"op": "add", "path": "/b", "value": {"z": 1.10, "y": 1e5}}]"#;
-/// let patch = raw_patch(alloc, Value::from_str(alloc, text)?, text)?;
+/// let patch = raw_patch(alloc, text, Value::from_str(alloc, text)?)?;
 /// let new = result_in_text(alloc, r#"{"a": 1}"#, &Task::Patch(patch), Layout::Kept)?;
 /// assert_eq!(rt; new.as_str(), r#"{"a": 1, "b": {"z": 1.10, "y": 1e5}}"#);
 /// ```
-pub fn raw_patch(alloc: Global, document: Value, text: &str) -> Result<RawPatch, TaskError>
+pub fn raw_patch(alloc: Global, text: &str, document: Value) -> Result<RawPatch, TaskError>
     ensures document { IfOk result (λ p. p.document ≡ document) }
     ensures texts { IfOk result (λ p. All (IsGivenIn text.now) p.operations.items) }
     ensures refused { IfErr result (FailsToReadPatch (view document)) }
 {
     match read_patch(alloc, &document) {
-        Ok(operations) => with_texts(alloc, document, operations, text),
+        Ok(operations) => with_texts(alloc, text, document, operations),
         Err(Fault::Refused(error)) => Err(TaskError::NotPatch(error)),
         Err(Fault::Memory(error)) => Err(TaskError::Memory(error)),
     }
@@ -77,9 +77,9 @@ pub fn raw_patch(alloc: Global, document: Value, text: &str) -> Result<RawPatch,
 /// Returns the patch of the document, which has these operations, with the texts of their values.
 fn with_texts(
     alloc: Global,
+    text: &str,
     document: Value,
     operations: Vec<Operation>,
-    text: &str,
 ) -> Result<RawPatch, TaskError>
     requires { IsPatch (view document) operations.items }
     ensures document { IfOk result (λ p. p.document ≡ document) }

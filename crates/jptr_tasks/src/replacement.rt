@@ -84,9 +84,11 @@ pub enum Replaced<E: Drop> {
     NotSynced(E),
 }
 
-/// Replaces the text of the file: creates a temporary file, writes the new text to it, copies the
-/// file's rights to it, syncs it, looks whether the file was changed since it was read, renames the
-/// temporary file over it, and syncs the folder.
+/// Replaces the text of the file.
+///
+/// Creates a temporary file, writes the new text to it, copies the file's rights to it, and syncs it.
+/// Looks whether the file was changed since it was read. If not, renames the temporary file over it,
+/// and syncs the folder.
 ///
 /// At each moment a program reads the old text or the new one, and a crash leaves one of them. With
 /// [`Replaced::Durable`] it leaves the new one.

@@ -18,7 +18,7 @@ use std::alloc::Global;
 /// [`Task::Get`] returns the text of its value as it is written, and reads no document. [`Task::Set`],
 /// [`Task::Delete`] and [`Task::Patch`] edit the text in place, as `assign_in_place` and the like of
 /// `jsonptr_edit_in_text` do: only the bytes of the edit change, and a text of one line stays one line.
-/// In a layout other than [`Layout::Kept`] the tokens of the new document are laid out anew.
+/// In another layout the new text is laid out as [`Layout`] says.
 ///
 /// # Errors
 ///
@@ -95,9 +95,9 @@ pub fn result_in_text_with(
             };
             get(alloc, buffers, lookup, fallback, layout)
         }
-        Task::Set(pointer, value) => set(buffers, text, *pointer, value, layout),
+        Task::Set(pointer, raw) => set(buffers, text, *pointer, raw, layout),
         Task::Delete(pointer) => delete(alloc, buffers, text, *pointer, layout),
-        Task::Patch(raw) => patch(alloc, buffers, text, raw, layout),
+        Task::Patch(changes) => patch(alloc, buffers, text, changes, layout),
     }
 }
 

@@ -11,7 +11,7 @@ use jsonptr_io::input::InputError;
 use jsonptr_io::write::WriteError;
 use jsonptr_patch::PatchError;
 use jsonptr_patch_document::PatchDocumentError;
-use jsonptr_paths::reading::{BuildError, LineError};
+use jsonptr_paths::build::{BuildError, LineError};
 use jsonptr_value::{MAX_DEPTH, ReadError};
 use std::alloc::AllocError;
 use thiserror::Error;
@@ -37,7 +37,8 @@ pub enum TaskError {
     /// The new document nests deeper than 127.
     #[error("document would nest deeper than {}", MAX_DEPTH)]
     TooDeep,
-    /// The edit is possible, but not in place: the document would have to be printed anew.
+    /// The edit is possible, but not in place: the document would have to be printed anew, or a text of
+    /// one line would have more.
     #[error("document cannot be edited in place")]
     NotInPlace,
     /// The value is there, but the check of where its text is failed.
@@ -103,7 +104,7 @@ fn line_status(error: &LineError) -> u8
 }
 
 impl From<BuildError> for TaskError {
-    ghost from_gives = { λ error failure. failure ≡ of_build_error error };
+    ghost from_gives = { λ error task_error. task_error ≡ of_build_error error };
 
     fn from(error: BuildError) -> TaskError {
         match error {
@@ -114,7 +115,7 @@ impl From<BuildError> for TaskError {
 }
 
 impl From<AllocError> for TaskError {
-    ghost from_gives = { λ error failure. failure ≡ Memory error };
+    ghost from_gives = { λ error task_error. task_error ≡ Memory error };
 
     fn from(error: AllocError) -> TaskError {
         TaskError::Memory(error)
@@ -122,7 +123,7 @@ impl From<AllocError> for TaskError {
 }
 
 impl From<InputError> for TaskError {
-    ghost from_gives = { λ error failure. failure ≡ of_input_error error };
+    ghost from_gives = { λ error task_error. task_error ≡ of_input_error error };
 
     fn from(error: InputError) -> TaskError {
         match error {
@@ -133,7 +134,7 @@ impl From<InputError> for TaskError {
 }
 
 impl From<WriteError> for TaskError {
-    ghost from_gives = { λ _ failure. failure ≡ Write };
+    ghost from_gives = { λ _ task_error. task_error ≡ Write };
 
     fn from(_error: WriteError) -> TaskError {
         TaskError::Write
@@ -141,7 +142,7 @@ impl From<WriteError> for TaskError {
 }
 
 impl From<ReadError> for TaskError {
-    ghost from_gives = { λ error failure. failure ≡ of_read_error error };
+    ghost from_gives = { λ error task_error. task_error ≡ of_read_error error };
 
     fn from(error: ReadError) -> TaskError {
         match error {
@@ -152,7 +153,7 @@ impl From<ReadError> for TaskError {
 }
 
 impl From<LocateError> for TaskError {
-    ghost from_gives = { λ error failure. failure ≡ of_locate_error error };
+    ghost from_gives = { λ error task_error. task_error ≡ of_locate_error error };
 
     fn from(error: LocateError) -> TaskError {
         match error {
@@ -165,7 +166,7 @@ impl From<LocateError> for TaskError {
 }
 
 impl From<InTextError> for TaskError {
-    ghost from_gives = { λ error failure. failure ≡ of_in_text_error error };
+    ghost from_gives = { λ error task_error. task_error ≡ of_in_text_error error };
 
     fn from(error: InTextError) -> TaskError {
         match error {
@@ -177,7 +178,7 @@ impl From<InTextError> for TaskError {
 }
 
 impl From<EditError<assign::Error>> for TaskError {
-    ghost from_gives = { λ error failure. failure ≡ of_assign_error error };
+    ghost from_gives = { λ error task_error. task_error ≡ of_assign_error error };
 
     fn from(error: EditError<assign::Error>) -> TaskError {
         match error {
@@ -190,7 +191,7 @@ impl From<EditError<assign::Error>> for TaskError {
 }
 
 impl From<EditError<PatchError>> for TaskError {
-    ghost from_gives = { λ error failure. failure ≡ of_patch_error error };
+    ghost from_gives = { λ error task_error. task_error ≡ of_patch_error error };
 
     fn from(error: EditError<PatchError>) -> TaskError {
         match error {
@@ -203,7 +204,7 @@ impl From<EditError<PatchError>> for TaskError {
 }
 
 impl From<InPlaceError<EditError<assign::Error>>> for TaskError {
-    ghost from_gives = { λ error failure. failure ≡ of_in_place_assign_error error };
+    ghost from_gives = { λ error task_error. task_error ≡ of_in_place_assign_error error };
 
     fn from(error: InPlaceError<EditError<assign::Error>>) -> TaskError {
         match error {
@@ -214,7 +215,7 @@ impl From<InPlaceError<EditError<assign::Error>>> for TaskError {
 }
 
 impl From<InPlaceError<ReadError>> for TaskError {
-    ghost from_gives = { λ error failure. failure ≡ of_in_place_delete_error error };
+    ghost from_gives = { λ error task_error. task_error ≡ of_in_place_delete_error error };
 
     fn from(error: InPlaceError<ReadError>) -> TaskError {
         match error {

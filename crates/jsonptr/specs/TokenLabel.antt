@@ -7,13 +7,13 @@ use Rattle.jsonptr_diagnostic.specs.Diagnostic.{Mark, IsOneLabel, IsNoLabel}
 abbrev pub offset_after_slash : ℕ → List Text → ℕ
 offset_after_slash o tokens = if nat_lt (o + 1) (length (text tokens)) then o + 1 else o
 
--- `IsSpan tokens position o place len`: the token at `position` has its slash at the offset `o`. Its span starts at
--- `place`, the offset after that slash, and has `len` bytes, as the encoded token has
-pub record IsSpan (tokens : List Text) (position o place len : ℕ) : Type 0 where
+-- `IsSpan tokens position o start len`: the token at `position` has its slash at the offset `o`. Its span starts at
+-- `start`, the offset after that slash, and has `len` bytes, as the encoded token has
+pub record IsSpan (tokens : List Text) (position o start len : ℕ) : Type 0 where
   pub token : Text
   pub there : slice_get tokens position ≡ Some token
   pub fits : o + 1 < 2 ^ 64
-  pub place_is : place ≡ offset_after_slash o tokens
+  pub start_is : start ≡ offset_after_slash o tokens
   pub len_is : len ≡ length (esc token)
 
 -- `HasNoSpan tokens position o`: there is no token at `position`, or the offset after `o` does not fit `usize`
@@ -23,5 +23,5 @@ HasNoSpan tokens position o = (slice_get tokens position ≡ None) ⊎ (2 ^ 64 �
 -- `IsTokenLabelled words position o tokens labels`: `labels` is one label with the text `words` on the span of the token
 -- at `position`, or no label if it has no span
 pub record IsTokenLabelled (words : Text) (position o : ℕ) (tokens : List Text) (labels : Option (List Mark)) : Type 0 where
-  pub one : (place len : ℕ) → IsSpan tokens position o place len → IsOneLabel words place len labels
+  pub one : (start len : ℕ) → IsSpan tokens position o start len → IsOneLabel words start len labels
   pub none : HasNoSpan tokens position o → IsNoLabel labels

@@ -28,11 +28,11 @@ pub(crate) fn token_label<W: fmt::Display>(
     ensures no_memory { IfSome (W.output words.now) (λ text.
         IsTokenLabelled text position offset subject.now None → IsOk result) }
 {
-    let Some((place, len)) = span_of(subject.as_ptr(), position, offset) else {
+    let Some((start, len)) = span_of(subject.as_ptr(), position, offset) else {
         return Ok(None);
     };
     let text = words.to_string(alloc)?;
-    Ok(Some(vec![in alloc; Label::new(text, place, len)]?))
+    Ok(Some(vec![in alloc; Label::new(text, start, len)]?))
 }
 
 /// Returns the span of the token: the offset at which it starts, and the length of its encoded
@@ -47,6 +47,6 @@ fn span_of(ptr: Pointer<'_>, position: usize, offset: usize) -> Option<(usize, u
 {
     let token = ptr.get(position)?;
     let behind = offset.checked_add(1)?;
-    let place = if behind < ptr.len() { behind } else { offset };
-    Some((place, token.encoded().len()))
+    let start = if behind < ptr.len() { behind } else { offset };
+    Some((start, token.encoded().len()))
 }

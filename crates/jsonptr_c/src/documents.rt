@@ -59,7 +59,7 @@ pub extern "C" fn jsonptrcore_document_parse(
 {
     match parse(alloc, document, text) {
         Ok(()) => succeed(error),
-        Err(failure) => fail(&failure, b"", error),
+        Err(call_error) => fail(&call_error, b"", error),
     }
 }
 
@@ -83,12 +83,12 @@ pub extern "C" fn jsonptrcore_document_parse_with(
     if is_exact {
         return match parse_exactly(alloc, document, text) {
             Ok(()) => succeed(error),
-            Err(failure) => fail(&failure, b"", error),
+            Err(call_error) => fail(&call_error, b"", error),
         };
     }
     match parse(alloc, document, text) {
         Ok(()) => succeed(error),
-        Err(failure) => fail(&failure, b"", error),
+        Err(call_error) => fail(&call_error, b"", error),
     }
 }
 
@@ -126,7 +126,7 @@ pub extern "C" fn jsonptrcore_document_print(
             *length = copied;
             succeed(error)
         }
-        Err(failure) => fail_with_length(&failure, pointer, length, error),
+        Err(call_error) => fail_with_length(&call_error, pointer, length, error),
     }
 }
 
@@ -155,7 +155,7 @@ pub extern "C" fn jsonptrcore_document_string(
             *length = copied;
             succeed(error)
         }
-        Err(failure) => fail_with_length(&failure, pointer, length, error),
+        Err(call_error) => fail_with_length(&call_error, pointer, length, error),
     }
 }
 
@@ -180,7 +180,7 @@ pub extern "C" fn jsonptrcore_document_node(
             *node = found;
             succeed(error)
         }
-        Err(failure) => fail(&failure, pointer, error),
+        Err(call_error) => fail(&call_error, pointer, error),
     }
 }
 
@@ -204,7 +204,7 @@ pub extern "C" fn jsonptrcore_document_assign(
 {
     match assign(alloc, document, pointer, text) {
         Ok(()) => succeed(error),
-        Err(failure) => fail(&failure, pointer, error),
+        Err(call_error) => fail(&call_error, pointer, error),
     }
 }
 
@@ -231,7 +231,7 @@ pub extern "C" fn jsonptrcore_document_delete(
             *found = deleted;
             succeed(error)
         }
-        Err(failure) => fail(&failure, pointer, error),
+        Err(call_error) => fail(&call_error, pointer, error),
     }
 }
 
@@ -254,7 +254,7 @@ pub extern "C" fn jsonptrcore_document_patch(
 {
     match patch(alloc, document, text) {
         Ok(()) => succeed(error),
-        Err(failure) => fail(&failure, b"", error),
+        Err(call_error) => fail(&call_error, b"", error),
     }
 }
 
@@ -288,7 +288,7 @@ pub extern "C" fn jsonptrcore_document_patch_with_inverse(
             *length = copied;
             succeed(error)
         }
-        Err(failure) => fail_with_length(&failure, b"", length, error),
+        Err(call_error) => fail_with_length(&call_error, b"", length, error),
     }
 }
 
@@ -319,7 +319,7 @@ pub extern "C" fn jsonptrcore_document_diff(
             *length = copied;
             succeed(error)
         }
-        Err(failure) => fail_with_length(&failure, b"", length, error),
+        Err(call_error) => fail_with_length(&call_error, b"", length, error),
     }
 }
 
@@ -347,7 +347,7 @@ pub extern "C" fn jsonptrcore_text_print(
             *length = copied;
             succeed(error)
         }
-        Err(failure) => fail_with_length(&failure, pointer, length, error),
+        Err(call_error) => fail_with_length(&call_error, pointer, length, error),
     }
 }
 
@@ -383,6 +383,6 @@ pub extern "C" fn jsonptrcore_text_lost_number(
             *length = 0;
             succeed(error)
         }
-        Err(failure) => fail_with_length(&failure, b"", length, error),
+        Err(call_error) => fail_with_length(&call_error, b"", length, error),
     }
 }

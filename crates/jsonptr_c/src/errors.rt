@@ -32,9 +32,9 @@ pub extern "C" fn jsonptrcore_error_message(
             *length = copied;
             OK
         }
-        Err(failure) => {
+        Err(call_error) => {
             let mut unused = ErrorRecord::none();
-            fail_with_length(&failure, b"", length, &mut unused)
+            fail_with_length(&call_error, b"", length, &mut unused)
         }
     }
 }

@@ -33,7 +33,7 @@ pub extern "C" fn jsonptrcore_text_locate(
             *end = span.end;
             succeed(error)
         }
-        Err(failure) => fail(&failure, pointer, error),
+        Err(call_error) => fail(&call_error, pointer, error),
     }
 }
 
@@ -59,6 +59,6 @@ pub extern "C" fn jsonptrcore_text_pointer_at(
             *length = copied;
             succeed(error)
         }
-        Err(failure) => fail_with_length(&failure, b"", length, error),
+        Err(call_error) => fail_with_length(&call_error, b"", length, error),
     }
 }

@@ -29,7 +29,7 @@ pub extern "C" fn jsonptrcore_pointer_count(
             *tokens = found;
             succeed(error)
         }
-        Err(failure) => fail(&failure, pointer, error),
+        Err(call_error) => fail(&call_error, pointer, error),
     }
 }
 
@@ -55,7 +55,7 @@ pub extern "C" fn jsonptrcore_pointer_token(
             *length = copied;
             succeed(error)
         }
-        Err(failure) => fail_with_length(&failure, pointer, length, error),
+        Err(call_error) => fail_with_length(&call_error, pointer, length, error),
     }
 }
 
@@ -80,7 +80,7 @@ pub extern "C" fn jsonptrcore_pointer_escape(
             *length = copied;
             succeed(error)
         }
-        Err(failure) => fail_with_length(&failure, b"", length, error),
+        Err(call_error) => fail_with_length(&call_error, b"", length, error),
     }
 }
 
@@ -108,9 +108,9 @@ pub extern "C" fn jsonptrcore_pointer_push(
             *length = longer;
             succeed(error)
         }
-        Err(failure) => {
+        Err(call_error) => {
             let end = (*length).min(buffer.len());
-            fail(&failure, &buffer[..end], error)
+            fail(&call_error, &buffer[..end], error)
         }
     }
 }
@@ -133,6 +133,6 @@ pub extern "C" fn jsonptrcore_pointer_pop(
             *length = shorter;
             succeed(error)
         }
-        Err(failure) => fail(&failure, pointer, error),
+        Err(call_error) => fail(&call_error, pointer, error),
     }
 }

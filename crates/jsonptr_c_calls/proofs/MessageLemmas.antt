@@ -6,12 +6,12 @@ use Rattle.jsonptr.specs.Types.ParseError.TheVariants as parse_error
 use Rattle.jsonptr_patch.specs.declared.operation.PatchError.TheVariants as patch_error
 use Rattle.jsonptr_patch_document.specs.declared.member.Member.TheVariants as member
 use Rattle.jsonptr_patch_document.specs.declared.error.PatchDocumentError.TheVariants as document_error
-use Rattle.jsonptr_c_calls.specs.Messages.{failure_message, message_of}
+use Rattle.jsonptr_c_calls.specs.Messages.{error_message, message_of}
 use Rattle.jsonptr_c_calls.specs.ErrorNumbers.{record_of}
 use Rattle.jsonptr_c_calls.specs.declared.call_error.CallError.{CallError}
 use Rattle.jsonptr_c_calls.specs.declared.call_error.CallError.TheVariants.{Memory, NoRoom, NoDocument, NotUtf8, NotJson, NotExact, NotPointer, NoToken, Resolve, NotLocated, NoValue, OtherType, Assign, NotPatch, PatchFailed, TooDeep, InverseTooDeep}
 
-pub message_one : (e : CallError) (bytes : List ℕ) → message_of (record_of e bytes) ≡ failure_message e
+pub message_one : (e : CallError) (bytes : List ℕ) → message_of (record_of e bytes) ≡ error_message e
 message_one (Memory e) bytes = refl
 message_one (NoRoom needed) bytes = refl
 message_one NoDocument bytes = refl

@@ -45,26 +45,26 @@ patch_document_message (document_error.NotPointer i m cause) =
     codes "not a JSON Patch document: " ++ codes "member `" ++ member_key m ++ codes "` of operation " ++ decimal i
     ++ codes ": " ++ parse_message cause
 
--- `failure_message e`: the message of the error `e`. Of an error of the library it is the text that this displays
-abbrev pub failure_message : CallError → Text
-failure_message (Memory e) = codes "out of memory"
-failure_message (NoRoom needed) = codes "the buffer is too short"
-failure_message NoDocument = codes "the handle holds no document"
-failure_message (NotUtf8 a offset) = codes "text is not UTF-8"
-failure_message (NotJson offset) = codes "text is not JSON"
-failure_message (NotExact l) =
+-- `error_message e`: the message of the error `e`. Of an error of the library it is the text that this displays
+abbrev pub error_message : CallError → Text
+error_message (Memory e) = codes "out of memory"
+error_message (NoRoom needed) = codes "the buffer is too short"
+error_message NoDocument = codes "the handle holds no document"
+error_message (NotUtf8 a offset) = codes "text is not UTF-8"
+error_message (NotJson offset) = codes "text is not JSON"
+error_message (NotExact l) =
     codes "the number at offset " ++ decimal (unwrap_or l.offset 0) ++ codes " loses digits"
-failure_message (NotPointer e) = parse_message e
-failure_message NoToken = codes "the pointer has no such token"
-failure_message (Resolve e) = resolve_message e
-failure_message NotLocated = codes "value cannot be located in the text"
-failure_message (NoValue offset) = codes "no value is at offset " ++ decimal offset
-failure_message OtherType = codes "the value is of another type"
-failure_message (Assign e) = assign_message e
-failure_message (NotPatch e) = patch_document_message e
-failure_message (PatchFailed e m) = patch_message e
-failure_message TooDeep = codes "the document would nest deeper than 10,127"
-failure_message InverseTooDeep = codes "the inverse of the patch would nest deeper than 127"
+error_message (NotPointer e) = parse_message e
+error_message NoToken = codes "the pointer has no such token"
+error_message (Resolve e) = resolve_message e
+error_message NotLocated = codes "value cannot be located in the text"
+error_message (NoValue offset) = codes "no value is at offset " ++ decimal offset
+error_message OtherType = codes "the value is of another type"
+error_message (Assign e) = assign_message e
+error_message (NotPatch e) = patch_document_message e
+error_message (PatchFailed e m) = patch_message e
+error_message TooDeep = codes "the document would nest deeper than 10,127"
+error_message InverseTooDeep = codes "the inverse of the patch would nest deeper than 127"
 
 -- ---- The same by the numbers of a record
 

@@ -78,7 +78,7 @@ pub enum CallError {
 }
 
 impl From<AllocError> for CallError {
-    ghost from_gives = { λ error failure. failure ≡ Memory error };
+    ghost from_gives = { λ error call_error. call_error ≡ Memory error };
 
     fn from(error: AllocError) -> CallError {
         CallError::Memory(error)

@@ -370,9 +370,9 @@ pub fn patch_with_inverse(
     };
     match patches::patched_copy(alloc, &mut value, text, operations, format) {
         Ok(made) => put_patched(document, value, made, out),
-        Err(failure) => {
+        Err(call_error) => {
             document.put(value);
-            Err(failure)
+            Err(call_error)
         }
     }
 }
@@ -390,6 +390,7 @@ fn put_patched(
     made: Patched,
     out: &mut [u8],
 ) -> Result<usize, CallError>
+    requires { IsEmpty document.old }
     ensures copied { IfOk result (λ n. take n out.new ≡ made.inverse.items) }
     ensures replaced { OnOk result (Holds document.new made.document) }
     ensures refused { IfErr result (LacksRoom (length made.inverse.items) (length out.old)) }
@@ -397,7 +398,7 @@ fn put_patched(
     ensures unchanged { OnErr result (Holds document.new old.value) }
 {
     let mut value = old;
-    let outcome = patches::keep(&mut value, made, out);
+    let outcome = patches::write_patched(&mut value, made, out);
     document.put(value);
     outcome
 }

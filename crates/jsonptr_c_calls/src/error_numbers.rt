@@ -147,21 +147,21 @@ impl ErrorRecord {
     }
 
     /// Returns the record of an error of a call with this pointer.
-    pub fn of(failure: &CallError, pointer: &[u8]) -> ErrorRecord
-        ensures { result ≡ record_of failure.now pointer.now }
+    pub fn of(call_error: &CallError, pointer: &[u8]) -> ErrorRecord
+        ensures { result ≡ record_of call_error.now pointer.now }
     {
         ErrorRecord {
-            status: status_number(failure),
-            ..fields_of(failure, pointer)
+            status: status_number(call_error),
+            ..fields_of(call_error, pointer)
         }
     }
 }
 
 /// Returns the status of a call that fails with the error.
-fn status_number(failure: &CallError) -> u32
-    ensures { result ≡ status_number failure.now }
+fn status_number(call_error: &CallError) -> u32
+    ensures { result ≡ status_number call_error.now }
 {
-    match failure {
+    match call_error {
         CallError::Memory(_) => NO_MEMORY,
         CallError::NoRoom { .. } => NO_ROOM,
         CallError::NoDocument => NO_DOCUMENT,
@@ -182,10 +182,10 @@ fn status_number(failure: &CallError) -> u32
 }
 
 /// Returns the record of an error of a call with this pointer, without its status.
-fn fields_of(failure: &CallError, pointer: &[u8]) -> ErrorRecord
-    ensures { result ≡ fields_of failure.now pointer.now }
+fn fields_of(call_error: &CallError, pointer: &[u8]) -> ErrorRecord
+    ensures { result ≡ fields_of call_error.now pointer.now }
 {
-    match failure {
+    match call_error {
         CallError::NoRoom { needed } => ErrorRecord {
             length: *needed as u64,
             ..ErrorRecord::none()

@@ -11,7 +11,7 @@ ghost use Rattle.jsonptr_c_calls.specs.Exactness.{IsNotParsedExactly, LacksPoint
 ghost use Rattle.jsonptr_c_calls.specs.Failures.{FailsOnHandle, IsNoPointer, IsNoToken, IsNotEscaped, IsNotParsed, IsNotPopped, IsNotPrinted, IsNotPushed, IsNotRead, SameStatus, Unfound};
 ghost use Rattle.jsonptr_c_calls.specs.InTexts.{IsNotPrintedFrom};
 ghost use Rattle.jsonptr_c_calls.specs.Locations.{IsNotLocated, LacksLocation};
-ghost use Rattle.jsonptr_c_calls.specs.Messages.{HasMessageNumbers, failure_message, message_of, message_room};
+ghost use Rattle.jsonptr_c_calls.specs.Messages.{HasMessageNumbers, error_message, message_of, message_room};
 ghost use Rattle.jsonptr_c_calls.specs.Patches.{IsNotAppliedList, IsNotPatched, IsNotPatchText};
 ghost use Rattle.jsonptr_c_calls.specs.ErrorNumbers.{record_of};
 ghost use Rattle.jsonptr_c_calls.specs.declared.call_error.CallError.{CallError};
@@ -25,7 +25,7 @@ use jsonptr_patch::laws::patch::comparing_patch_law;
 /// longer than 200 bytes, also that of a record which is not of an error.
 pub fn message_law()
     ensures text { (e : CallError) (bytes : List ℕ)
-        → message_of (record_of e bytes) ≡ failure_message e }
+        → message_of (record_of e bytes) ≡ error_message e }
     ensures short { (r : ErrorRecord) → HasMessageNumbers r → length (message_of r) ≤ message_room }
 {}
 

@@ -17,7 +17,6 @@ pub mod laws;
 pub mod locations;
 pub mod message;
 pub mod node;
-pub mod node_type;
 pub mod outcome;
 pub mod patches;
 pub mod pointers;

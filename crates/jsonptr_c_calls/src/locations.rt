@@ -49,7 +49,7 @@ pub fn locate_in(alloc: Global, text: &[u8], pointer: &[u8]) -> Result<TextSpan,
             start: located.before.len(),
             end: text.len() - located.after.len(),
         }),
-        Err(error) => Err(location_failure(alloc, text, error)),
+        Err(error) => Err(location_error(alloc, text, error)),
     }
 }
 
@@ -89,12 +89,12 @@ pub fn pointer_at_in(
     match pointer_at(alloc, text, offset) {
         Ok(Some(found)) => copy_to(found.pointer.as_ptr().as_str().as_bytes(), out),
         Ok(None) => Err(CallError::NoValue { offset }),
-        Err(error) => Err(location_failure(alloc, text, error)),
+        Err(error) => Err(location_error(alloc, text, error)),
     }
 }
 
 /// Returns the error of a call on the text in which a value is not located.
-fn location_failure(alloc: Global, text: &str, error: LocateError) -> CallError
+fn location_error(alloc: Global, text: &str, error: LocateError) -> CallError
     ensures { (tokens : List Text) → IsLocateError text.now tokens error
         → LacksLocation text.now tokens result }
 {

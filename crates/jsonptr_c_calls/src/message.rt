@@ -44,7 +44,11 @@ impl fmt::Display for ErrorRecord {
     fn fmt<W: fmt::Write>(&self, f: &mut fmt::Formatter<W>) -> fmt::Result {
         match self.status {
             NOT_POINTER | NOT_FOUND | NOT_ASSIGNED => write!(f, "{}", Cause(*self)),
-            NOT_PATCH => write!(f, "not a JSON Patch document: {}", DocumentFault(*self)),
+            NOT_PATCH => write!(
+                f,
+                "not a JSON Patch document: {}",
+                PatchDocumentCause(*self)
+            ),
             PATCH_FAILED => {
                 let operation = self.operation;
                 write!(f, "patch failed at operation {operation}: {}", Cause(*self))
@@ -137,10 +141,10 @@ impl fmt::Display for Cause {
 
 /// Why a document is not a patch.
 #[derive(Clone, Copy)]
-struct DocumentFault(ErrorRecord);
+struct PatchDocumentCause(ErrorRecord);
 
-impl fmt::Display for DocumentFault {
-    ghost output = { λ fault. Some (document_message fault.0) };
+impl fmt::Display for PatchDocumentCause {
+    ghost output = { λ cause. Some (document_message cause.0) };
 
     fn fmt<W: fmt::Write>(&self, f: &mut fmt::Formatter<W>) -> fmt::Result {
         let operation = self.0.operation;

@@ -16,28 +16,28 @@ pub fn succeed(error: &mut ErrorRecord) -> u32
 }
 
 /// Returns the status of a call with this pointer that fails, and writes the record of the error.
-pub fn fail(failure: &CallError, pointer: &[u8], error: &mut ErrorRecord) -> u32
-    ensures reported { Reports failure.now pointer.now result error.new }
+pub fn fail(call_error: &CallError, pointer: &[u8], error: &mut ErrorRecord) -> u32
+    ensures reported { Reports call_error.now pointer.now result error.new }
     ensures status { result ≢ 0 }
 {
-    *error = ErrorRecord::of(failure, pointer);
+    *error = ErrorRecord::of(call_error, pointer);
     error.status
 }
 
 /// Does what [`fail`] does, and writes the length that the result needs if the buffer is too short.
 pub fn fail_with_length(
-    failure: &CallError,
+    call_error: &CallError,
     pointer: &[u8],
     length: &mut usize,
     error: &mut ErrorRecord,
 ) -> u32
-    ensures reported { Reports failure.now pointer.now result error.new }
+    ensures reported { Reports call_error.now pointer.now result error.new }
     ensures status { result ≢ 0 }
-    ensures reported_length { ReportsLength failure.now length.old length.new }
+    ensures reported_length { ReportsLength call_error.now length.old length.new }
     ensures length { IsLengthOf error.new length.old length.new }
 {
-    if let CallError::NoRoom { needed } = failure {
+    if let CallError::NoRoom { needed } = call_error {
         *length = *needed;
     }
-    fail(failure, pointer, error)
+    fail(call_error, pointer, error)
 }

@@ -18,7 +18,7 @@ use crate::buffer::copy_to;
 use crate::call_error::CallError;
 use crate::depths::stays_shallow;
 use crate::reading::read;
-use crate::sources::failure_of;
+use crate::sources::call_error_of;
 use crate::values::json_text;
 use jsonptr::Fault;
 use jsonptr_diff::diff;
@@ -88,7 +88,7 @@ pub fn apply_all(
     }
     match apply_comparing(alloc, document, patch, Comparison::Numeric) {
         Ok(()) => Ok(()),
-        Err(fault) => Err(failure_of(alloc, document, text, fault)),
+        Err(fault) => Err(call_error_of(alloc, document, text, fault)),
     }
 }
 
@@ -141,7 +141,7 @@ pub fn patched_copy(
             inverse: inverse_text(alloc, &inverse, format)?,
             document: changed,
         }),
-        Err(fault) => Err(failure_of(alloc, document, text, fault)),
+        Err(fault) => Err(call_error_of(alloc, document, text, fault)),
     }
 }
 
@@ -151,7 +151,11 @@ pub fn patched_copy(
 /// # Errors
 ///
 /// [`CallError::NoRoom`] if the buffer is shorter than the text. Buffer and document are unchanged.
-pub fn keep(document: &mut Value, made: Patched, out: &mut [u8]) -> Result<usize, CallError>
+pub fn write_patched(
+    document: &mut Value,
+    made: Patched,
+    out: &mut [u8],
+) -> Result<usize, CallError>
     ensures copied { IfOk result (λ n. take n out.new ≡ made.inverse.items) }
     ensures replaced { OnOk result (document.new ≡ made.document) }
     ensures refused { IfErr result (LacksRoom (length made.inverse.items) (length out.old)) }

@@ -167,7 +167,7 @@ pub fn push(
     };
     match extended(alloc, bytes, token) {
         Ok(longer) => copy_to(longer.as_ptr().as_str().as_bytes(), buffer),
-        Err(failure) => Err(failure),
+        Err(call_error) => Err(call_error),
     }
 }
 

@@ -36,7 +36,7 @@ use std::alloc::{AllocError, Global};
 /// Returns why the operations of the patch document fail on the document, with the pointer at fault.
 ///
 /// It costs what the operations cost, and may fail to allocate.
-pub(crate) fn failure_of(
+pub(crate) fn call_error_of(
     alloc: Global,
     document: &mut Value,
     text: &[u8],
@@ -55,7 +55,7 @@ pub(crate) fn failure_of(
         Fault::Memory(error) => CallError::Memory(error),
         Fault::Refused(error) => match at_fault(alloc, document, text, &error) {
             Ok(member) => CallError::PatchFailed { error, member },
-            Err(failure) => failure,
+            Err(call_error) => call_error,
         },
     }
 }

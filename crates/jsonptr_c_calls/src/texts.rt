@@ -78,7 +78,7 @@ pub fn print_in(
 {
     match find_in(alloc, text, pointer) {
         Ok(value) => copy_to(&json_text(alloc, &value, format)?, out),
-        Err(failure) => Err(failure),
+        Err(call_error) => Err(call_error),
     }
 }
 

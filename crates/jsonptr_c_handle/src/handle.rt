@@ -45,9 +45,13 @@ impl Handle {
         }
     }
 
-    /// Puts a document into the handle. One that is in it already is not freed:
-    /// [`take`](Handle::take) that first.
+    /// Puts a document into the handle, which is empty: [`take`](Handle::take) what is in it first.
+    ///
+    /// # Conditions
+    ///
+    /// The handle holds no document. One that it held would never be freed.
     pub fn put(&mut self, document: Box<Value, Global>)
+        requires { IsEmpty self.old }
         ensures { Holds self.new document.value }
     {
         self.slot = Slot::holding(Apart::from_box(document));

@@ -13,9 +13,9 @@ use Rattle.jsonptr.specs.Types.Index.{Index}
 use Rattle.jsonptr.specs.Types.Index.TheVariants.{Num, Next}
 use Rattle.jsonptr.specs.Types.ParseIndexError.{ParseIndexError}
 use Rattle.jsonptr.proofs.Calling.{Reads_one}
-use Rattle.jsonptr_command.specs.Operations.{Form, words_of, values_of}
+use Rattle.jsonptr_command.specs.Operations.{OperationWords, words_of, values_of}
 use Rattle.jsonptr_command.specs.PrivateOperations.{RefusesOperations}
-use Rattle.jsonptr_command.specs.Run.{Asks, HaveForms, HaveValue, IsWordsMemory, TakePointer, TakePointers}
+use Rattle.jsonptr_command.specs.Run.{Asks, HaveOperations, HaveValue, IsWordsMemory, TakePointer, TakePointers}
 use Rattle.jsonptr_command.specs.Faults.{RefusesValue}
 use Rattle.jsonptr_command.specs.Private.{RefusesCommand}
 use Rattle.jsonptr_command.specs.declared.fault.RunFault.{RunFault}
@@ -49,7 +49,7 @@ unfoldable pub begins : List Text → Bool
 begins [] = false
 begins (c ∷ ws) = bytes_eq c (codes "patch")
 
-pub begins_so : (words : List Text) (forms : List Form) → HaveForms words forms → begins words ≡ true
+pub begins_so : (words : List Text) (forms : List OperationWords) → HaveOperations words forms → begins words ≡ true
 unfolding begins
 begins_so words forms h = rw h refl
 
@@ -98,10 +98,10 @@ patch_refused words rest e are (inl h) = inl (inl (none, h.1))
     none pointers (inl t) = no_both words (rw are refl) (begins_otherwise words t.0 t.1)
     none pointers (inr t) = h.0 t.0 (same_behind words rest (words_of t.0) are t.1)
 patch_refused words rest e are (inr (inl h)) =
-    let have : HaveForms words h.0 = are ∙ ap (λ (l : List Text). codes "patch" ∷ l) h.2 in
+    let have : HaveOperations words h.0 = are ∙ ap (λ (l : List Text). codes "patch" ∷ l) h.2 in
     inl (inr (inl (h.3.0, h.3.1, h.3.2, h.1, inr (h.0, have, sym h.3.3), h.3.4, h.3.5, h.4)))
 patch_refused words rest e are (inr (inr (inl h))) =
-    let have : HaveForms words h.0 = are ∙ ap (λ (l : List Text). codes "patch" ∷ l) h.1 in
+    let have : HaveOperations words h.0 = are ∙ ap (λ (l : List Text). codes "patch" ∷ l) h.1 in
     inl (inr (inr (values_of h.0, h.3.0, inr (h.0, have, h.2, refl), h.3.1, h.3.2, h.3.3)))
 patch_refused words rest e are (inr (inr (inr memory))) = inr (inr (rest, are), memory)
 

@@ -2,7 +2,7 @@ pub mod CommandLemmas
 pub mod JsonLemmas
 pub mod AnswerLemmas
 pub mod TextsLemmas
-pub mod FormsLemmas
+pub mod OperationWordsLemmas
 pub mod RunLaw
-pub mod MeantLemmas
+pub mod OperationDataLemmas
 mod OrderLemmas

@@ -28,12 +28,12 @@ use Rattle.jsonptr.specs.Types.ParseError.{ParseError}
 use Rattle.jsonptr.specs.declared.resolve.Error as resolve
 use Rattle.jsonptr.specs.declared.assign.Error as assign
 use Rattle.jsonptr_command.proofs.CommandLemmas.{number_one, begins, begins_so, begins_otherwise, no_both, same_behind}
-use Rattle.jsonptr_command.proofs.FormsLemmas.{forms_one}
-use Rattle.jsonptr_command.proofs.MeantLemmas.{IsJson, one_value_json, mean_one, mean_pointers, mean_values, mean_in_order, patches_same, refused_same}
+use Rattle.jsonptr_command.proofs.OperationWordsLemmas.{operations_one}
+use Rattle.jsonptr_command.proofs.OperationDataLemmas.{IsJson, one_value_json, mean_one, mean_pointers, mean_values, mean_in_order, patches_same, refused_same}
 use Rattle.jsonptr_command.proofs.OrderLemmas.{ascends_json}
 use Rattle.jsonptr_command.specs.JsonText.{json_of, IsJsonLine}
-use Rattle.jsonptr_command.specs.Operations.{Form, words_of, pointers_of, Meant, meant, MeanAll}
-use Rattle.jsonptr_command.specs.Run.{Request, resolving, listing, assigning, deleting, splitting, patching, AskFor, HaveValue, HaveForms, HaveValues, TakePointer, TakePointers, IsWordsFault, IsPointerFault, IsValueFault, Asks, AssignsAt, DeletesAt, IsRunOutcome, PatchesOrFails, Resolves, texts_value}
+use Rattle.jsonptr_command.specs.Operations.{OperationWords, words_of, pointers_of, OperationData, data_of, AreOperationsOf}
+use Rattle.jsonptr_command.specs.Run.{Request, resolving, listing, assigning, deleting, splitting, patching, AskFor, HaveValue, HaveOperations, HaveValues, TakePointer, TakePointers, IsWordsFault, IsPointerFault, IsValueFault, Asks, AssignsAt, DeletesAt, IsRunOutcome, PatchesOrFails, Resolves, texts_value}
 use Rattle.jsonptr_command.specs.declared.fault.RunFault.{RunFault}
 use Rattle.jsonptr_command.specs.declared.fault.RunFault.TheVariants.{BadPointer, NoValue, BadPlace, BadPatch, InputNotJson}
 
@@ -57,8 +57,8 @@ begins_as_asked words (deleting ts) h = rw h refl
 begins_as_asked words (splitting ts n) h = rw h.1 refl
 begins_as_asked words (patching os) h = rw h.1 refl
 
-same_forms : (words : List Text) (fs gs : List Form) → HaveForms words fs → HaveForms words gs → fs ≡ gs
-same_forms words fs gs h k = forms_one fs gs (same_behind words (words_of fs) (words_of gs) h k)
+same_operations : (words : List Text) (fs gs : List OperationWords) → HaveOperations words fs → HaveOperations words gs → fs ≡ gs
+same_operations words fs gs h k = operations_one fs gs (same_behind words (words_of fs) (words_of gs) h k)
 
 -- what words ask for, if their command is not `patch`, their pointer is valid, and their position, if they have one,
 -- is n
@@ -131,7 +131,7 @@ other_request_one words r q other another h k =
     cc
 
 -- a request of a patch has its operations
-patch_asked : (words : List Text) (request : Request) → is_patch request ≡ true → AskFor words request → (os : List Meant) × (forms : List Form) × (request ≡ patching os) × HaveForms words forms × MeanAll forms os
+patch_asked : (words : List Text) (request : Request) → is_patch request ≡ true → AskFor words request → (os : List OperationData) × (forms : List OperationWords) × (request ≡ patching os) × HaveOperations words forms × AreOperationsOf forms os
 unfolding is_patch
 patch_asked words (resolving ts) is h = let no : ⊥ = cc in absurd no
 patch_asked words (listing ts) is h = let no : ⊥ = cc in absurd no
@@ -144,9 +144,9 @@ patch_request_one : (words : List Text) (r q : Request) → is_patch r ≡ true 
 patch_request_one words r q is same h k =
     let a = patch_asked words r is h in
     let b = patch_asked words q same k in
-    let forms : a.1 ≡ b.1 = same_forms words a.1 b.1 a.3 b.3 in
-    let meanings : a.0 ≡ b.0 = mean_one b.1 a.0 b.0 (subst (λ (fs : List Form). MeanAll fs a.0) forms a.4) b.4 in
-    a.2 ∙ ap (λ (os : List Meant). patching os) meanings ∙ sym b.2
+    let forms : a.1 ≡ b.1 = same_operations words a.1 b.1 a.3 b.3 in
+    let meanings : a.0 ≡ b.0 = mean_one b.1 a.0 b.0 (subst (λ (fs : List OperationWords). AreOperationsOf fs a.0) forms a.4) b.4 in
+    a.2 ∙ ap (λ (os : List OperationData). patching os) meanings ∙ sym b.2
 
 pub request_one : (words : List Text) (r q : Request) → AskFor words r → AskFor words q → r ≡ q
 request_one words r q h k = by_kind (is_patch r) refl
@@ -183,7 +183,7 @@ pointers_one words ps qs (inl h) (inr k) =
     absurd (no_both words (begins_so words k.0 k.1) (begins_otherwise words h.0 h.1))
 pointers_one words ps qs (inr h) (inl k) =
     absurd (no_both words (begins_so words h.0 h.1) (begins_otherwise words k.0 k.1))
-pointers_one words ps qs (inr h) (inr k) = h.2 ∙ ap (λ (fs : List Form). pointers_of fs) (same_forms words h.0 k.0 h.1 k.1) ∙ sym k.2
+pointers_one words ps qs (inr h) (inr k) = h.2 ∙ ap (λ (fs : List OperationWords). pointers_of fs) (same_operations words h.0 k.0 h.1 k.1) ∙ sym k.2
 
 -- words whose pointers are valid
 abbrev TakeGood : List Text → Type 0
@@ -193,7 +193,7 @@ take_one : (words : List Text) (ts : List Text) → TakePointer words (text ts) 
 take_one words ts h =
     (text ts ∷ [], inl (text ts, h, refl), All-cons IsPointer (text ts) [] (IsPointer-text ts) (All-nil IsPointer))
 
-take_patch : (words : List Text) (forms : List Form) → HaveForms words forms → All IsPointer (pointers_of forms) → TakeGood words
+take_patch : (words : List Text) (forms : List OperationWords) → HaveOperations words forms → All IsPointer (pointers_of forms) → TakeGood words
 take_patch words forms h all = (pointers_of forms, inr (forms, h, refl), all)
 
 takes : (words : List Text) (request : Request) → AskFor words request → TakeGood words
@@ -226,7 +226,7 @@ no_assignment words ts value C h other =
     let both : true ≡ false = sym is ∙ other in
     cc
 
-no_patch : (words : List Text) (request : Request) (forms : List Form) (C : Type 0) → is_patch request ≡ false → AskFor words request → HaveForms words forms → C
+no_patch : (words : List Text) (request : Request) (forms : List OperationWords) (C : Type 0) → is_patch request ≡ false → AskFor words request → HaveOperations words forms → C
 no_patch words request forms C other h k =
     absurd (no_both words (begins_so words forms k) (begins_as_asked words request h ∙ other))
 
@@ -247,8 +247,8 @@ values_json words values (assigning ts v) h (inr k) = no_patch words (assigning 
 values_json words values (deleting ts) h (inr k) = no_patch words (deleting ts) k.0 (All IsJson values) refl h k.1
 values_json words values (splitting ts n) h (inr k) = no_patch words (splitting ts n) k.0 (All IsJson values) refl h k.1
 values_json words values (patching os) h (inr k) =
-    let same : h.0 ≡ k.0 = same_forms words h.0 k.0 h.1 k.1 in
-    rw k.3 (mean_values k.0 os (subst (λ (fs : List Form). MeanAll fs os) same h.2))
+    let same : h.0 ≡ k.0 = same_operations words h.0 k.0 h.1 k.1 in
+    rw k.3 (mean_values k.0 os (subst (λ (fs : List OperationWords). AreOperationsOf fs os) same h.2))
 
 -- an element in the middle of a list whose elements all are pointers
 at_middle : (before : List Text) (p : Text) (after : List Text) → All IsPointer (before ++ (p ∷ after)) → IsPointer p
@@ -380,25 +380,25 @@ is_document : (d : Data) → IsDocument (nodes d)
 is_document d = (map_of-IsTree (content d), map_of-finite (content d))
 
 -- the result of a patch is a document or an error, and each is unique
-module _ (not_both : (n m : NodeMap) (os : List Operation) (e : PatchError) → IsDocument n → Patches n os m → RefusesPatch n os e → ⊥) (d : Data) (os : List Meant) where
+module _ (not_both : (n m : NodeMap) (os : List Operation) (e : PatchError) → IsDocument n → Patches n os m → RefusesPatch n os e → ⊥) (d : Data) (os : List OperationData) where
   pub patches_not_both : (value : Data) (e : RunFault) → PatchesOrFails d os (Ok value) → PatchesOrFails d os (Err e) → ⊥
   patches_not_both value e h k =
       not_both (nodes d) (nodes value) h.0 k.1 (is_document d) h.2 (refused_same (nodes d) k.0 h.0 k.1 (k.2 ∙ sym h.1) k.3)
 
-module _ (one : (n : NodeMap) (os : List Operation) (e f : PatchError) → IsDocument n → RefusesPatch n os e → RefusesPatch n os f → e ≡ f) (d : Data) (os : List Meant) where
+module _ (one : (n : NodeMap) (os : List Operation) (e f : PatchError) → IsDocument n → RefusesPatch n os e → RefusesPatch n os f → e ≡ f) (d : Data) (os : List OperationData) where
   pub patches_one_fault : (e f : RunFault) → PatchesOrFails d os (Err e) → PatchesOrFails d os (Err f) → e ≡ f
   patches_one_fault e f h k =
       let same : h.1 ≡ k.1 = one (nodes d) k.0 h.1 k.1 (is_document d) (refused_same (nodes d) h.0 k.0 h.1 (h.2 ∙ sym k.2) h.3) k.3 in
       h.4 ∙ ap (λ (x : PatchError). BadPatch x) same ∙ sym k.4
 
-module _ (one : (n m l : NodeMap) (os : List Operation) → IsDocument n → Patches n os m → Patches n os l → m ≡ l) (d : Data) (os : List Meant) where
+module _ (one : (n m l : NodeMap) (os : List Operation) → IsDocument n → Patches n os m → Patches n os l → m ≡ l) (d : Data) (os : List OperationData) where
   pub patches_one_map : (value other : Data) → PatchesOrFails d os (Ok value) → PatchesOrFails d os (Ok other) → nodes value ≡ nodes other
   patches_one_map value other h k =
       one (nodes d) (nodes value) (nodes other) k.0 (is_document d) (patches_same (nodes d) (nodes value) h.0 k.0 (h.1 ∙ sym k.1) h.2) k.2
 
 -- the values of a patch that words ask for have sorted keys
-asked_in_order : (words : List Text) (os : List Meant) (patch : List Operation) → AskFor words (patching os) → map meant patch ≡ os → All OperationHasSortedKeys patch
-asked_in_order words os patch h is = mean_in_order h.0 patch (subst (λ (l : List Meant). MeanAll h.0 l) (sym is) h.2)
+asked_in_order : (words : List Text) (os : List OperationData) (patch : List Operation) → AskFor words (patching os) → map data_of patch ≡ os → All OperationHasSortedKeys patch
+asked_in_order words os patch h is = mean_in_order h.0 patch (subst (λ (l : List OperationData). AreOperationsOf h.0 l) (sym is) h.2)
 
 -- two documents with the same map are equal, if the keys of both are sorted
 abbrev OneMap : Type 0

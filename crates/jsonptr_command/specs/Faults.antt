@@ -17,40 +17,40 @@ use Rattle.jsonptr_io.specs.declared.input.InputError.TheVariants as input
 use Rattle.jsonptr_io.specs.Streams.{ForInput}
 use Rattle.jsonptr_command.specs.JsonText.{json_of}
 
--- `of_input_fault e`: the fault of the run if the input cannot be read.
+-- `of_input_fault e`: the fault of the run if the input cannot be read
 abbrev pub of_input_fault : InputError → RunFault
 of_input_fault (input.Memory e) = Memory e
 of_input_fault input.Read = Read
 
--- `of_resolve_fault e`: the fault of the run if a pointer does not resolve.
+-- `of_resolve_fault e`: the fault of the run if a pointer does not resolve
 abbrev pub of_resolve_fault : Fault resolve.Error → RunFault
 of_resolve_fault (fault.Refused e) = NoValue e
 of_resolve_fault (fault.Memory e) = Memory e
 
--- `fault_of_in_text e`: the fault of the run if a pointer does not resolve in the text of the input.
+-- `fault_of_in_text e`: the fault of the run if a pointer does not resolve in the text of the input
 abbrev pub fault_of_in_text : InTextError → RunFault
 fault_of_in_text NotJson = InputNotJson
 fault_of_in_text (Resolve e) = NoValue e
 fault_of_in_text (in_text.Memory e) = Memory e
 
--- `of_assign_fault e`: the fault of the run if a value cannot be assigned.
+-- `of_assign_fault e`: the fault of the run if a value cannot be assigned
 abbrev pub of_assign_fault : Fault assign.Error → RunFault
 of_assign_fault (fault.Refused e) = BadPlace e
 of_assign_fault (fault.Memory e) = Memory e
 
--- `of_patch_fault e`: the fault of the run if a patch cannot be applied.
+-- `of_patch_fault e`: the fault of the run if a patch cannot be applied
 abbrev pub of_patch_fault : Fault PatchError → RunFault
 of_patch_fault (fault.Refused e) = BadPatch e
 of_patch_fault (fault.Memory e) = Memory e
 
 -- `IsInputFault known e`: `e` is a fault of reading the bytes `known` as a document. An allocation or a read failed,
--- or the bytes are not JSON.
+-- or the bytes are not JSON
 abbrev pub IsInputFault : Option (List ℕ) → RunFault → Type 0
 IsInputFault known e =
     (e ≡ Memory alloc_error)
     ⊎ (e ≡ Read)
     ⊎ (ForInput known (λ bytes. json_of bytes ≡ None) × (e ≡ InputNotJson))
 
--- `RefusesValue text e`: `text` is not JSON, and `e` reports that, or an allocation failed.
+-- `RefusesValue text e`: `text` is not JSON, and `e` reports that, or an allocation failed
 abbrev pub RefusesValue : Text → RunFault → Type 0
 RefusesValue text e = ((json_of text ≡ None) × (e ≡ ValueNotJson)) ⊎ (e ≡ Memory alloc_error)

@@ -18,42 +18,42 @@ use Rattle.jsonptr_command.specs.declared.run.Change.{Change}
 use Rattle.jsonptr_command.specs.declared.run.Change.TheVariants.{Assign, Delete, Patch}
 use Rattle.jsonptr_command.specs.JsonText.{IsJsonLine}
 use Rattle.jsonptr_command.specs.Faults.{RefusesValue}
-use Rattle.jsonptr_command.specs.Operations.{meant}
+use Rattle.jsonptr_command.specs.Operations.{data_of}
 use Rattle.jsonptr_command.specs.Run.{Request, resolving, listing, assigning, deleting, splitting, patching, AssignsAt, DeletesAt, HaveValue, PatchesOrFails, TakePointer}
 
--- `asked_by change`: the request that the program's `change` is.
+-- `asked_by change`: the request that the program's `change` is
 abbrev pub asked_by : Change → Request
 asked_by (Assign p v) = assigning (tokens p) (view v)
 asked_by (Delete p) = deleting (tokens p)
-asked_by (Patch patch) = patching (map meant patch.items)
+asked_by (Patch patch) = patching (map data_of patch.items)
 
--- `Changes change d r`: `r` is the result of `change` on document `d`.
+-- `Changes change d r`: `r` is the result of `change` on document `d`
 abbrev pub Changes : Change → Data → Result Data RunFault → Type 0
 Changes (Assign p v) d = AssignsAt d (tokens p) (view v)
 Changes (Delete p) d = DeletesAt d (tokens p)
-Changes (Patch patch) d = PatchesOrFails d (map meant patch.items)
+Changes (Patch patch) d = PatchesOrFails d (map data_of patch.items)
 
--- `request_of request`: the request that the program's `request` is.
+-- `request_of request`: the request that the program's `request` is
 abbrev pub request_of : code.Request → Request
 request_of (Tokens p) = listing (tokens p)
 request_of (Split p n) = splitting (tokens p) n
 request_of (Resolve p) = resolving (tokens p)
 request_of (of_change change) = asked_by change
 
--- `IsLineOf P line`: `line` is the JSON line of a value that is a result `P`.
+-- `IsLineOf P line`: `line` is the JSON line of a value that is a result `P`
 abbrev pub IsLineOf : (Result Data RunFault → Type 0) → Text → Type 0
 IsLineOf P line = (value : Data) × P (Ok value) × IsJsonLine value line
 
--- `IsFaultOf P e`: `e` is an error that is a result `P`, or a failed allocation.
+-- `IsFaultOf P e`: `e` is an error that is a result `P`, or a failed allocation
 abbrev pub IsFaultOf : (Result Data RunFault → Type 0) → RunFault → Type 0
 IsFaultOf P e = P (Err e) ⊎ (e ≡ Memory alloc_error)
 
--- `RefusesPosition text e`: `text` is not a position to split at, and `e` reports that.
+-- `RefusesPosition text e`: `text` is not a position to split at, and `e` reports that
 abbrev pub RefusesPosition : Text → RunFault → Type 0
 RefusesPosition text e = ((n : ℕ) → Reads text (Ok (Num n)) → ⊥) × (e ≡ Usage)
 
 -- `RefusesCommand words e`: the words of a command with one pointer fail with `e`. They are not those of such a
--- command, or the pointer is not valid, or the value to assign is not JSON, or an allocation for it failed.
+-- command, or the pointer is not valid, or the value to assign is not JSON, or an allocation for it failed
 abbrev pub RefusesCommand : List Text → RunFault → Type 0
 RefusesCommand words e =
     (((pointer : Text) → TakePointer words pointer → ⊥) × (e ≡ Usage))
@@ -64,7 +64,7 @@ RefusesCommand words e =
     ⊎ ((ts : List Text) × (value : Text) × HaveValue words ts value × RefusesValue value e)
 
 -- `ComesBeforeDocument e`: a run fails with `e` only while it has no document: `e` is an error of the words or of the
--- input.
+-- input
 abbrev pub ComesBeforeDocument : RunFault → Type 0
 ComesBeforeDocument Usage = ⊤
 ComesBeforeDocument (BadPointer e) = ⊤
@@ -79,6 +79,6 @@ ComesBeforeDocument (Memory e) = ⊥
 ComesBeforeDocument Read = ⊤
 ComesBeforeDocument Write = ⊥
 
--- `IsNoValue e`: `e` is the error of a pointer that resolves to no value.
+-- `IsNoValue e`: `e` is the error of a pointer that resolves to no value
 abbrev pub IsNoValue : RunFault → Type 0
 IsNoValue e = (f : resolve.Error) × (e ≡ NoValue f)

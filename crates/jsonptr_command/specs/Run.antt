@@ -26,9 +26,9 @@ use Rattle.jsonptr_command.specs.declared.fault.RunFault.{RunFault}
 use Rattle.jsonptr_command.specs.declared.fault.RunFault.TheVariants.{Usage, BadPointer, ValueNotJson, NoValue, BadPlace, NotThere, BadSplit, BadPatch, InputNotJson, Memory, Read, Write}
 use Rattle.jsonptr_io.specs.Streams.{ForInput}
 use Rattle.jsonptr_command.specs.JsonText.{json_of, IsJsonLine}
-use Rattle.jsonptr_command.specs.Operations.{Form, words_of, pointers_of, values_of, Meant, meant, MeanAll}
+use Rattle.jsonptr_command.specs.Operations.{OperationWords, words_of, pointers_of, values_of, OperationData, data_of, AreOperationsOf}
 
--- `status_of e`: the exit status of the program after the error `e`.
+-- `status_of e`: the exit status of the program after the error `e`
 abbrev pub status_of : RunFault → ℕ
 status_of (BadPointer e) = 1
 status_of (NoValue e) = 1
@@ -52,43 +52,43 @@ status_of Write = 5
 -- - the document with this value assigned at these tokens;
 -- - the document without the value at these tokens;
 -- - these tokens in two parts, split at this position;
--- - the document after a patch of these operations.
+-- - the document after a patch of these operations
 pub data Request : Type 0 where
   resolving : List Text → Request
   listing : List Text → Request
   assigning : List Text → Data → Request
   deleting : List Text → Request
   splitting : List Text → ℕ → Request
-  patching : List Meant → Request
+  patching : List OperationData → Request
 
--- `HaveValue words ts value`: the words ask to assign the value with the text `value` at the tokens `ts`.
+-- `HaveValue words ts value`: the words ask to assign the value with the text `value` at the tokens `ts`
 abbrev pub HaveValue : List Text → List Text → Text → Type 0
 HaveValue words ts value = words ≡ codes "assign" ∷ text ts ∷ value ∷ []
 
 -- `HavePosition words pointer n`: the words ask to split the pointer with the text `pointer` at position `n`, in
--- decimal.
+-- decimal
 abbrev pub HavePosition : List Text → Text → ℕ → Type 0
 HavePosition words pointer n =
     (position : Text)
     × (words ≡ codes "split" ∷ pointer ∷ position ∷ [])
     × Reads position (Ok (Num n))
 
--- `HaveForms words forms`: the words ask to apply a patch of the operations `forms`.
-abbrev pub HaveForms : List Text → List Form → Type 0
-HaveForms words forms = words ≡ codes "patch" ∷ words_of forms
+-- `HaveOperations words operations`: the words ask to apply a patch of the `operations`
+abbrev pub HaveOperations : List Text → List OperationWords → Type 0
+HaveOperations words operations = words ≡ codes "patch" ∷ words_of operations
 
 -- `AskFor words request`: the words ask for `request`. They are a command, the text of the tokens, and the JSON text
--- of a value or a position; or they are the operations of a patch.
+-- of a value or a position; or they are the operations of a patch
 abbrev pub AskFor : List Text → Request → Type 0
 AskFor words (resolving ts) = words ≡ codes "resolve" ∷ text ts ∷ []
 AskFor words (listing ts) = words ≡ codes "tokens" ∷ text ts ∷ []
 AskFor words (assigning ts v) = (value : Text) × HaveValue words ts value × (json_of value ≡ Some v)
 AskFor words (deleting ts) = words ≡ codes "delete" ∷ text ts ∷ []
 AskFor words (splitting ts n) = HavePosition words (text ts) n
-AskFor words (patching os) = (forms : List Form) × HaveForms words forms × MeanAll forms os
+AskFor words (patching os) = (operations : List OperationWords) × HaveOperations words operations × AreOperationsOf operations os
 
 -- `TakePointer words pointer`: the words are a known command with one pointer, whose text is `pointer`, and its other
--- arguments. A position among these is a number.
+-- arguments. A position among these is a number
 abbrev pub TakePointer : List Text → Text → Type 0
 TakePointer words pointer =
     (words ≡ codes "resolve" ∷ pointer ∷ [])
@@ -98,17 +98,17 @@ TakePointer words pointer =
     ⊎ ((n : ℕ) × HavePosition words pointer n)
 
 -- `TakePointers words pointers`: the words are a known command, and `pointers` are the texts of its pointers, from
--- left to right.
+-- left to right
 abbrev pub TakePointers : List Text → List Text → Type 0
 TakePointers words pointers =
     ((pointer : Text) × TakePointer words pointer × (pointers ≡ pointer ∷ []))
-    ⊎ ((forms : List Form) × HaveForms words forms × (pointers ≡ pointers_of forms))
+    ⊎ ((operations : List OperationWords) × HaveOperations words operations × (pointers ≡ pointers_of operations))
 
--- `IsWordsFault words e`: the words are not those of a known command, and `e` reports that.
+-- `IsWordsFault words e`: the words are not those of a known command, and `e` reports that
 abbrev pub IsWordsFault : List Text → RunFault → Type 0
 IsWordsFault words e = ((pointers : List Text) → TakePointers words pointers → ⊥) × (e ≡ Usage)
 
--- `IsPointerFault words e`: one of their pointers is not valid, and `e` is the error of the first such pointer.
+-- `IsPointerFault words e`: one of their pointers is not valid, and `e` is the error of the first such pointer
 abbrev pub IsPointerFault : List Text → RunFault → Type 0
 IsPointerFault words e =
     (before : List Text) × (pointer : Text) × (after : List Text) × (f : ParseError)
@@ -117,16 +117,16 @@ IsPointerFault words e =
     × IsParseErrorOf pointer f
     × (e ≡ BadPointer f)
 
--- `HaveValues words values`: the pointers of the words are valid, and `values` are the texts of their values.
+-- `HaveValues words values`: the pointers of the words are valid, and `values` are the texts of their values
 abbrev pub HaveValues : List Text → List Text → Type 0
 HaveValues words values =
     ((ts : List Text) × (value : Text) × HaveValue words ts value × (values ≡ value ∷ []))
-    ⊎ ((forms : List Form)
-    × HaveForms words forms
-    × All IsPointer (pointers_of forms)
-    × (values ≡ values_of forms))
+    ⊎ ((operations : List OperationWords)
+    × HaveOperations words operations
+    × All IsPointer (pointers_of operations)
+    × (values ≡ values_of operations))
 
--- `IsValueFault words e`: one of their values is not JSON, and `e` reports that.
+-- `IsValueFault words e`: one of their values is not JSON, and `e` reports that
 abbrev pub IsValueFault : List Text → RunFault → Type 0
 IsValueFault words e =
     (values : List Text) × (value : Text)
@@ -135,26 +135,26 @@ IsValueFault words e =
     × (json_of value ≡ None)
     × (e ≡ ValueNotJson)
 
--- `Asks words r`: the words ask for the request in `r`, or fail with the error in `r`. The input does not matter.
+-- `Asks words r`: the words ask for the request in `r`, or fail with the error in `r`. The input does not matter
 abbrev pub Asks : List Text → Result Request RunFault → Type 0
 Asks words (Ok request) = AskFor words request
 Asks words (Err e) = IsWordsFault words e ⊎ IsPointerFault words e ⊎ IsValueFault words e
 
 -- `IsWordsMemory words e`: `e` is a failed allocation for the value to assign or for a patch, before the request is
--- known.
+-- known
 abbrev pub IsWordsMemory : List Text → RunFault → Type 0
 IsWordsMemory words e =
     (((ts : List Text) × (value : Text) × HaveValue words ts value)
     ⊎ ((rest : List Text) × (words ≡ codes "patch" ∷ rest)))
     × (e ≡ Memory alloc_error)
 
--- `ForRequest words P`: the words ask for a request with the property `P`.
+-- `ForRequest words P`: the words ask for a request with the property `P`
 abbrev pub ForRequest : List Text → (Request → Type 0) → Type 0
 ForRequest words P = (request : Request) × AskFor words request × P request
 
 -- ---- the input
 
--- `NeedsInput request`: the request needs the input.
+-- `NeedsInput request`: the request needs the input
 abbrev pub NeedsInput : Request → Type 0
 NeedsInput (resolving ts) = ⊤
 NeedsInput (listing ts) = ⊥
@@ -163,16 +163,16 @@ NeedsInput (deleting ts) = ⊤
 NeedsInput (splitting ts n) = ⊥
 NeedsInput (patching os) = ⊤
 
--- `NeedNoInput words`: no request that the words ask for needs the input.
+-- `NeedNoInput words`: no request that the words ask for needs the input
 abbrev pub NeedNoInput : List Text → Type 0
 NeedNoInput words = (request : Request) → AskFor words request → NeedsInput request → ⊥
 
--- `NeedInput words`: the words ask for a request that needs the input.
+-- `NeedInput words`: the words ask for a request that needs the input
 abbrev pub NeedInput : List Text → Type 0
 NeedInput words = ForRequest words NeedsInput
 
 -- `ComesAfterInput e`: a run whose request needs the input fails with `e` only after it has read the input to its end:
--- `e` is an error of the operation or of a write, or the input is not JSON. A failed allocation can come at any stage.
+-- `e` is an error of the operation or of a write, or the input is not JSON. A failed allocation can come at any stage
 abbrev pub ComesAfterInput : RunFault → Type 0
 ComesAfterInput Usage = ⊥
 ComesAfterInput (BadPointer e) = ⊥
@@ -187,27 +187,27 @@ ComesAfterInput (Memory e) = ⊥
 ComesAfterInput Read = ⊥
 ComesAfterInput Write = ⊤
 
--- `IsOperationFault e`: `e` is an error of the operation on the document.
+-- `IsOperationFault e`: `e` is an error of the operation on the document
 abbrev pub IsOperationFault : RunFault → Type 0
 IsOperationFault e = ComesAfterInput e × (e ≢ InputNotJson) × (e ≢ Write)
 
--- `IsPastInput r`: the result `r` of a stage or of the run is no error, or one that comes after the input.
+-- `IsPastInput r`: the result `r` of a stage or of the run is no error, or one that comes after the input
 abbrev pub IsPastInput : {T : Type 0} → Result T RunFault → Type 0
 IsPastInput (Ok v) = ⊤
 IsPastInput (Err e) = ComesAfterInput e
 
--- `OnDocument bytes r P`: `r` is the error that the bytes are not JSON, or `P` holds of their document.
+-- `OnDocument bytes r P`: `r` is the error that the bytes are not JSON, or `P` holds of their document
 abbrev pub OnDocument : List ℕ → Result Data RunFault → (Data → Type 0) → Type 0
 OnDocument bytes r P = MatchOption (json_of bytes) (r ≡ Err InputNotJson) P
 
 -- ---- the operation
 
--- `Resolves d ts r`: `r` is the value that `ts` resolve to in `d`, or why they do not.
+-- `Resolves d ts r`: `r` is the value that `ts` resolve to in `d`, or why they do not
 abbrev pub Resolves : Data → List Text → Result Data RunFault → Type 0
 Resolves d ts (Ok value) = FindsValue d ts value
 Resolves d ts (Err e) = (f : resolve.Error) × Refuses (nodes d) ts f × (e ≡ NoValue f)
 
--- `AssignsAt d ts v r`: `r` is the document `d` with `v` assigned at `ts`, or why that fails. Keys stay sorted.
+-- `AssignsAt d ts v r`: `r` is the document `d` with `v` assigned at `ts`, or why that fails. Keys stay sorted
 abbrev pub AssignsAt : Data → List Text → Data → Result Data RunFault → Type 0
 AssignsAt d ts v (Ok new) =
     (old : Option NodeMap)
@@ -216,7 +216,7 @@ AssignsAt d ts v (Ok new) =
 AssignsAt d ts v (Err e) = (f : assign.Error) × RefusesAssign (nodes d) ts f × (e ≡ BadPlace f)
 
 -- `DeletesAt d ts r`: `r` is the document `d` without the value at `ts`, or that there is none. Deleting the root
--- leaves `null`. Keys stay sorted.
+-- leaves `null`. Keys stay sorted
 abbrev pub DeletesAt : Data → List Text → Result Data RunFault → Type 0
 DeletesAt d ts (Ok new) =
     ((w : Path) × Names (nodes d) ts w)
@@ -224,12 +224,12 @@ DeletesAt d ts (Ok new) =
     × (HasSortedKeys d → HasSortedKeys new)
 DeletesAt d ts (Err e) = NamesNothing (nodes d) ts × (e ≡ NotThere)
 
--- `texts_value ts`: the JSON array of the texts `ts`.
+-- `texts_value ts`: the JSON array of the texts `ts`
 abbrev pub texts_value : List Text → Data
 texts_value ts = array (items_of (map string ts))
 
 -- `SplitsInTwo ts n r`: `r` is the array of the texts of the first `n` tokens and of the rest, or that there are
--- fewer.
+-- fewer
 abbrev pub SplitsInTwo : List Text → ℕ → Result Data RunFault → Type 0
 SplitsInTwo ts n (Ok value) =
     (front : List Text) × (rest : List Text)
@@ -239,20 +239,20 @@ SplitsInTwo ts n (Ok value) =
 SplitsInTwo ts n (Err e) = (length ts < n) × (e ≡ BadSplit n (length ts))
 
 -- `PatchesOrFails d os r`: `r` is the document `d` after a patch of the operations `os`, or why that fails. Keys stay
--- sorted.
-abbrev pub PatchesOrFails : Data → List Meant → Result Data RunFault → Type 0
+-- sorted
+abbrev pub PatchesOrFails : Data → List OperationData → Result Data RunFault → Type 0
 PatchesOrFails d os (Ok new) =
     (patch : List Operation)
-    × (map meant patch ≡ os)
+    × (map data_of patch ≡ os)
     × Patches (nodes d) patch (nodes new)
     × (All OperationHasSortedKeys patch → HasSortedKeys d → HasSortedKeys new)
 PatchesOrFails d os (Err e) =
     (patch : List Operation) × (f : PatchError)
-    × (map meant patch ≡ os)
+    × (map data_of patch ≡ os)
     × RefusesPatch (nodes d) patch f
     × (e ≡ BadPatch f)
 
--- `IsRunOutcome request bytes r`: `r` is the result of the request on an input of these bytes: a value or an error.
+-- `IsRunOutcome request bytes r`: `r` is the result of the request on an input of these bytes: a value or an error
 abbrev pub IsRunOutcome : Request → List ℕ → Result Data RunFault → Type 0
 IsRunOutcome (resolving ts) bytes r = OnDocument bytes r (λ d. Resolves d ts r)
 IsRunOutcome (listing ts) bytes r = r ≡ Ok (texts_value ts)
@@ -261,12 +261,12 @@ IsRunOutcome (deleting ts) bytes r = OnDocument bytes r (λ d. DeletesAt d ts r)
 IsRunOutcome (splitting ts n) bytes r = SplitsInTwo ts n r
 IsRunOutcome (patching os) bytes r = OnDocument bytes r (λ d. PatchesOrFails d os r)
 
--- `HasValueOf request bytes value`: `value` has the value of the request on an input of these bytes.
+-- `HasValueOf request bytes value`: `value` has the value of the request on an input of these bytes
 abbrev pub HasValueOf : Request → List ℕ → Option Data → Type 0
 HasValueOf request bytes value = (d : Data) × (value ≡ Some d) × IsRunOutcome request bytes (Ok d)
 
 -- `IsRequestFault request known e`: the request fails with `e`, because of the input, the operation, an allocation
--- or, if it needs the input, a read.
+-- or, if it needs the input, a read
 abbrev pub IsRequestFault : Request → Option (List ℕ) → RunFault → Type 0
 IsRequestFault request known e =
     ForInput known (λ bytes. IsRunOutcome request bytes (Err e))
@@ -276,7 +276,7 @@ IsRequestFault request known e =
 -- `LeavesValue known Made old new e`: after the error `e` the value, which was `old`, is `new`. An error of the words or of
 -- the input, and a pointer that resolves to no value, leave it unchanged. An error of an assignment, a deletion or a patch
 -- leaves the document of the bytes `known`, and a failed allocation one of these or what `Made` holds of. Nothing is said
--- of a failed write.
+-- of a failed write
 abbrev pub LeavesValue : Option (List ℕ) → (List ℕ → Type 0) → Option Data → Option Data → RunFault → Type 0
 LeavesValue known Made old new Usage = new ≡ old
 LeavesValue known Made old new (BadPointer e) = new ≡ old
@@ -294,7 +294,7 @@ LeavesValue known Made old new Write = ⊤
 
 -- ---- the line, and the whole run
 
--- `ForLine words known P`: the words ask for a request with a value, and `P` holds of its line.
+-- `ForLine words known P`: the words ask for a request with a value, and `P` holds of its line
 abbrev pub ForLine : List Text → Option (List ℕ) → (Text → Type 0) → Type 0
 ForLine words known P =
     ForRequest words (λ request. ForInput known (λ bytes. (value : Data) × (line : Text)
@@ -303,7 +303,7 @@ ForLine words known P =
     × P line))
 
 -- `IsRefusedSo words known e`: the run fails with `e`, because of its words, an allocation for them, its request or a
--- write.
+-- write
 abbrev pub IsRefusedSo : List Text → Option (List ℕ) → RunFault → Type 0
 IsRefusedSo words known e =
     Asks words (Err e)

@@ -1,7 +1,8 @@
 //! The command line of `jsonptr_run`: from its words and its input to one line or an error.
 //!
 //! - [`run`]: one run of the program. It calls the modules below in the order of its stages.
-//! - [`json_text`]: reading JSON texts.
+//! - [`arguments`]: the words of the command line.
+//! - [`json_text`]: reading and printing JSON texts.
 //! - [`fault`]: the errors and the exit status.
 //! - [`laws`]: the output is unique.
 #![tactic(auto)]

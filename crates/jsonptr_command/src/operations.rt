@@ -3,8 +3,8 @@ ghost use Rattle.std.specs.Prelude.{◌≡◌, ◌⊎◌, ◌∷◌, [], All, Li
 ghost use Rattle.jsonptr.specs.Grammar.{IsPointer};
 ghost use Rattle.jsonptr.specs.Text.{text};
 ghost use Rattle.jsonptr_command.specs.Operations as specs;
-ghost use Rattle.jsonptr_command.specs.Operations.{MeanAll, Means, meant, words_of, pointers_of, values_of, form_pointers, form_values};
-ghost use Rattle.jsonptr_command.specs.PrivateOperations.{form_of, with_two, cut_of, IsFirstFault, RefusesForms, RefusesOneOf, RefusesOperations};
+ghost use Rattle.jsonptr_command.specs.Operations.{AreOperationsOf, IsOperationOf, data_of, words_of, pointers_of, values_of, operation_pointers, operation_values};
+ghost use Rattle.jsonptr_command.specs.PrivateOperations.{texts_of, with_two, cut_of, IsFirstFault, RefusesWords, RefusesOneOf, RefusesOperations};
 ghost use Rattle.jsonptr_command.specs.declared.fault.RunFault.TheVariants.{Memory};
 
 use crate::fault::RunFault;
@@ -15,7 +15,7 @@ use std::alloc::{AllocError, Global};
 
 /// An operation as words: the texts of its pointers, and the JSON text of its value.
 #[derive(Debug, Drop)]
-pub enum Form<'w> {
+pub enum OperationWords<'w> {
     /// `add POINTER VALUE`.
     Add(&'w str, &'w str),
     /// `remove POINTER`.
@@ -43,14 +43,14 @@ pub enum Form<'w> {
 ///
 /// [`RunFault::Memory`] if an allocation fails.
 pub fn read_operations(alloc: Global, words: &[String]) -> Result<Vec<Operation>, RunFault>
-    ensures meant { IfOk result (λ patch. (forms : List specs.Form)
-        × (map string_bytes words.now ≡ words_of forms)
-        × MeanAll forms (map meant patch.items)) }
+    ensures operations { IfOk result (λ patch. (operations : List specs.OperationWords)
+        × (map string_bytes words.now ≡ words_of operations)
+        × AreOperationsOf operations (map data_of patch.items)) }
     ensures refused { IfErr result (RefusesOperations (map string_bytes words.now)) }
 {
-    let forms = read_forms(alloc, words)?;
-    check_pointers(&forms)?;
-    mean(alloc, forms)
+    let operations = split_words(alloc, words)?;
+    check_pointers(&operations)?;
+    to_operations(alloc, operations)
 }
 
 /// Splits the words into operations.
@@ -59,52 +59,52 @@ pub fn read_operations(alloc: Global, words: &[String]) -> Result<Vec<Operation>
 ///
 /// [`RunFault::Usage`] if the words are not operations, and [`RunFault::Memory`] if an allocation
 /// fails.
-fn read_forms(alloc: Global, words: &[String]) -> Result<Vec<Form<'_>>, RunFault>
-    ensures forms { IfOk result
-        (λ forms. map string_bytes words.now ≡ words_of (map form_of forms.items)) }
+fn split_words(alloc: Global, words: &[String]) -> Result<Vec<OperationWords<'_>>, RunFault>
+    ensures operations { IfOk result
+        (λ operations. map string_bytes words.now ≡ words_of (map texts_of operations.items)) }
     ensures refused { IfErr result
-        (λ e. RefusesForms (map string_bytes words.now) e ⊎ (e ≡ Memory alloc_error)) }
+        (λ e. RefusesWords (map string_bytes words.now) e ⊎ (e ≡ Memory alloc_error)) }
 {
-    let mut forms = Vec::new(alloc);
+    let mut operations = Vec::new(alloc);
     let mut rest = words;
     while !rest.is_empty() {
-        let Some((form, left)) = cut(rest) else {
+        let Some((operation, left)) = cut(rest) else {
             return Err(RunFault::Usage);
         };
-        forms.push(form).map_err(AllocError::from)?;
+        operations.push(operation).map_err(AllocError::from)?;
         rest = left;
     }
-    Ok(forms)
+    Ok(operations)
 }
 
 /// Returns the first operation of the words, and the words after it. Returns `None` if the words do
 /// not begin with a known operation, or are too few for it.
-fn cut(words: &[String]) -> Option<(Form<'_>, &[String])>
+fn cut(words: &[String]) -> Option<(OperationWords<'_>, &[String])>
     ensures { cut_of (map string_bytes words.now)
-        ≡ option_map (λ found. (form_of found.0, map string_bytes found.1.now)) result }
+        ≡ option_map (λ found. (texts_of found.0, map string_bytes found.1.now)) result }
 {
     match words {
         [name, pointer, rest @ ..] if name.as_str() == "remove" => {
-            Some((Form::Remove(pointer.as_str()), rest))
+            Some((OperationWords::Remove(pointer.as_str()), rest))
         }
         [name, first, second, rest @ ..] => {
-            let form = form_with_two(name.as_str(), first.as_str(), second.as_str())?;
-            Some((form, rest))
+            let operation = operation_with_two(name.as_str(), first.as_str(), second.as_str())?;
+            Some((operation, rest))
         }
         _ => None,
     }
 }
 
 /// Returns the operation with this name and two arguments.
-fn form_with_two<'w>(name: &str, first: &'w str, second: &'w str) -> Option<Form<'w>>
-    ensures { with_two name.now first.now second.now ≡ option_map form_of result }
+fn operation_with_two<'w>(name: &str, first: &'w str, second: &'w str) -> Option<OperationWords<'w>>
+    ensures { with_two name.now first.now second.now ≡ option_map texts_of result }
 {
     match name {
-        "add" => Some(Form::Add(first, second)),
-        "replace" => Some(Form::Replace(first, second)),
-        "move" => Some(Form::Move(first, second)),
-        "copy" => Some(Form::Copy(first, second)),
-        "test" => Some(Form::Test(first, second)),
+        "add" => Some(OperationWords::Add(first, second)),
+        "replace" => Some(OperationWords::Replace(first, second)),
+        "move" => Some(OperationWords::Move(first, second)),
+        "copy" => Some(OperationWords::Copy(first, second)),
+        "test" => Some(OperationWords::Test(first, second)),
         _ => None,
     }
 }
@@ -114,28 +114,28 @@ fn form_with_two<'w>(name: &str, first: &'w str, second: &'w str) -> Option<Form
 /// # Errors
 ///
 /// The error of the first one that is not valid.
-fn check_pointers(forms: &[Form<'_>]) -> Result<(), ParseError>
-    ensures pointers { IfOk result (λ _. All IsPointer (pointers_of (map form_of forms.now))) }
-    ensures refused { IfErr result (IsFirstFault (pointers_of (map form_of forms.now))) }
+fn check_pointers(operations: &[OperationWords<'_>]) -> Result<(), ParseError>
+    ensures pointers { IfOk result (λ _. All IsPointer (pointers_of (map texts_of operations.now))) }
+    ensures refused { IfErr result (IsFirstFault (pointers_of (map texts_of operations.now))) }
 {
-    for form in forms {
-        check_pointers_in(form)?;
+    for words in operations {
+        check_pointers_in(words)?;
     }
     Ok(())
 }
 
 /// Checks the pointers of one operation, from left to right.
-fn check_pointers_in(form: &Form<'_>) -> Result<(), ParseError>
-    ensures pointers { IfOk result (λ _. All IsPointer (form_pointers (form_of form.now))) }
-    ensures refused { IfErr result (IsFirstFault (form_pointers (form_of form.now))) }
+fn check_pointers_in(words: &OperationWords<'_>) -> Result<(), ParseError>
+    ensures pointers { IfOk result (λ _. All IsPointer (operation_pointers (texts_of words.now))) }
+    ensures refused { IfErr result (IsFirstFault (operation_pointers (texts_of words.now))) }
 {
-    match form {
-        Form::Add(pointer, _) => check_one(pointer),
-        Form::Remove(pointer) => check_one(pointer),
-        Form::Replace(pointer, _) => check_one(pointer),
-        Form::Move(from, pointer) => check_two(from, pointer),
-        Form::Copy(from, pointer) => check_two(from, pointer),
-        Form::Test(pointer, _) => check_one(pointer),
+    match words {
+        OperationWords::Add(pointer, _) => check_one(pointer),
+        OperationWords::Remove(pointer) => check_one(pointer),
+        OperationWords::Replace(pointer, _) => check_one(pointer),
+        OperationWords::Move(from, pointer) => check_two(from, pointer),
+        OperationWords::Copy(from, pointer) => check_two(from, pointer),
+        OperationWords::Test(pointer, _) => check_one(pointer),
     }
 }
 
@@ -168,49 +168,53 @@ fn check_two(from: &str, pointer: &str) -> Result<(), ParseError>
 ///
 /// [`RunFault::ValueNotJson`] if a value is not a JSON text, and [`RunFault::Memory`] if an
 /// allocation fails.
-fn mean(alloc: Global, forms: Vec<Form<'_>>) -> Result<Vec<Operation>, RunFault>
-    requires { All IsPointer (pointers_of (map form_of forms.items)) }
-    ensures meant { IfOk result
-        (λ patch. MeanAll (map form_of forms.entry.items) (map meant patch.items)) }
+fn to_operations(
+    alloc: Global,
+    operations: Vec<OperationWords<'_>>,
+) -> Result<Vec<Operation>, RunFault>
+    requires { All IsPointer (pointers_of (map texts_of operations.items)) }
+    ensures operations { IfOk result
+        (λ patch. AreOperationsOf (map texts_of operations.entry.items) (map data_of patch.items)) }
     ensures refused { IfErr result (λ e.
-        RefusesOneOf (values_of (map form_of forms.entry.items)) e ⊎ (e ≡ Memory alloc_error)) }
+        RefusesOneOf (values_of (map texts_of operations.entry.items)) e ⊎ (e ≡ Memory alloc_error)) }
 {
     let mut patch = Vec::new(alloc);
-    for form in forms {
-        let operation = mean_one(alloc, form)?;
+    for words in operations {
+        let operation = to_operation(alloc, words)?;
         patch.push(operation).map_err(AllocError::from)?;
     }
     Ok(patch)
 }
 
-/// Converts the words of one operation to the operation, as [`mean`] does.
-fn mean_one(alloc: Global, form: Form<'_>) -> Result<Operation, RunFault>
-    requires { All IsPointer (form_pointers (form_of form)) }
-    ensures meant { IfOk result (λ operation. Means (form_of form.entry) (meant operation)) }
+/// Converts the words of one operation to the operation, as [`to_operations`] does.
+fn to_operation(alloc: Global, words: OperationWords<'_>) -> Result<Operation, RunFault>
+    requires { All IsPointer (operation_pointers (texts_of words)) }
+    ensures operation { IfOk result
+        (λ operation. IsOperationOf (texts_of words.entry) (data_of operation)) }
     ensures refused { IfErr result (λ e.
-        RefusesOneOf (form_values (form_of form.entry)) e ⊎ (e ≡ Memory alloc_error)) }
+        RefusesOneOf (operation_values (texts_of words.entry)) e ⊎ (e ≡ Memory alloc_error)) }
 {
-    Ok(match form {
-        Form::Add(pointer, value) => Operation::Add {
+    Ok(match words {
+        OperationWords::Add(pointer, value) => Operation::Add {
             path: to_pointer(alloc, pointer)?,
             value: read_value(alloc, value)?,
         },
-        Form::Remove(pointer) => Operation::Remove {
+        OperationWords::Remove(pointer) => Operation::Remove {
             path: to_pointer(alloc, pointer)?,
         },
-        Form::Replace(pointer, value) => Operation::Replace {
+        OperationWords::Replace(pointer, value) => Operation::Replace {
             path: to_pointer(alloc, pointer)?,
             value: read_value(alloc, value)?,
         },
-        Form::Move(from, pointer) => Operation::Move {
+        OperationWords::Move(from, pointer) => Operation::Move {
             from: to_pointer(alloc, from)?,
             path: to_pointer(alloc, pointer)?,
         },
-        Form::Copy(from, pointer) => Operation::Copy {
+        OperationWords::Copy(from, pointer) => Operation::Copy {
             from: to_pointer(alloc, from)?,
             path: to_pointer(alloc, pointer)?,
         },
-        Form::Test(pointer, value) => Operation::Test {
+        OperationWords::Test(pointer, value) => Operation::Test {
             path: to_pointer(alloc, pointer)?,
             value: read_value(alloc, value)?,
         },

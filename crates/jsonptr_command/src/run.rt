@@ -12,7 +12,7 @@ ghost use Rattle.jsonptr_io.specs.Streams.{AppendsPrefix, ForInput};
 ghost use Rattle.jsonptr_command.specs.declared.fault.RunFault.{RunFault};
 ghost use Rattle.jsonptr_command.specs.declared.fault.RunFault.TheVariants.{Memory};
 ghost use Rattle.jsonptr_command.specs.Private.{request_of, asked_by, Changes, ComesBeforeDocument, IsFaultOf, IsLineOf, RefusesCommand, RefusesPosition};
-ghost use Rattle.jsonptr_command.specs.Operations.{meant};
+ghost use Rattle.jsonptr_command.specs.Operations.{data_of};
 ghost use Rattle.jsonptr_command.specs.Run.{AskFor, Asks, AssignsAt, DeletesAt, ForLine, ForRequest, HasValueOf, IsOperationFault, IsRunOutcome, IsPastInput, IsRefusedSo, IsRequestFault, IsWordsMemory, LeavesValue, NeedInput, NeedNoInput, NeedsInput, PatchesOrFails, Resolves, SplitsInTwo, resolving, texts_value};
 
 use crate::fault::RunFault;
@@ -76,7 +76,8 @@ pub enum Change<'w> {
 /// At the end the value that was printed is dropped, so that a process can run the program many
 /// times. That takes time. [`run_program_into`] passes the value to its caller instead.
 ///
-/// The stack that a run needs does not grow with the depth of the document.
+/// Beyond the 127 levels that a text can have, the stack that a run needs does not grow with the depth of
+/// the document, except for a `test` of a patch.
 ///
 /// # Errors
 ///
@@ -420,13 +421,13 @@ fn line_after(
     patch: Vec<Operation>,
 ) -> Result<String, RunFault>
     ensures line { IfOk result (λ line.
-        IsLineOf (PatchesOrFails (view document.old) (map meant patch.items)) (string_bytes line)) }
+        IsLineOf (PatchesOrFails (view document.old) (map data_of patch.items)) (string_bytes line)) }
     ensures refused { IfErr result
-        (IsFaultOf (PatchesOrFails (view document.old) (map meant patch.items))) }
+        (IsFaultOf (PatchesOrFails (view document.old) (map data_of patch.items))) }
     ensures changed { OnOk result
-        (PatchesOrFails (view document.old) (map meant patch.items) (Ok (view document.new))) }
+        (PatchesOrFails (view document.old) (map data_of patch.items) (Ok (view document.new))) }
     ensures either { (view document.new ≡ view document.old)
-        ⊎ PatchesOrFails (view document.old) (map meant patch.items) (Ok (view document.new)) }
+        ⊎ PatchesOrFails (view document.old) (map data_of patch.items) (Ok (view document.new)) }
     ensures unchanged { IfErr result
         (λ e. IsOperationFault e → view document.new ≡ view document.old) }
 {

@@ -22,7 +22,7 @@ abbrev pub after_block : List ℕ → Option (List ℕ)
 after_block [] = None
 after_block (x ∷ xs) = cond ((x == 42) && (slice_index xs 0 == 47)) (Some (drop 1 xs)) (after_block xs)
 
--- the value of value_after after all pieces
+-- the value of `value_after` after all pieces
 abbrev pub value_at : Bool → List Piece → Bool
 value_at b [] = b
 value_at b (p ∷ ps) = value_at (value_after b p) ps
@@ -32,7 +32,7 @@ abbrev pub Pends : Option ℕ → List ℕ → List ℕ → Type 0
 Pends None before blanked = blanked ≡ before
 Pends (Some k) before blanked = (a b : List ℕ) × (length a ≡ k) × (before ≡ a ++ 44 ∷ b) × (blanked ≡ a ++ 32 ∷ b)
 
--- `Done all text i value comma`: up to the offset i the text is what is left of `all`
+-- `Done all text i value comma`: up to the offset `i` the text is what is left of `all`
 pub record Done (all text : List ℕ) (i : ℕ) (value : Bool) (comma : Option ℕ) : Type 0 where
   pub ps : List Piece
   pub pieces : Pieces all ps (drop i text)

@@ -14,7 +14,7 @@ use Rattle.jsonptr_patch.specs.PrivateTesting.{Object as Object'}
 use Rattle.jsonptr_patch.proofs.TestingLemmas.{object_label, array_label}
 use Rattle.jsonptr_patch.specs.declared.operation.Operation.{Operation}
 use Rattle.jsonptr_patch.specs.declared.operation.Operation.TheVariants.{Add, Remove, Replace, Move, Copy, Test}
-use Rattle.jsonptr_diff.specs.Differing.{keys, DifferAlong, AreOfOneKind, GoesThroughBoth, IsChange}
+use Rattle.jsonptr_diff.specs.Diff.{keys, DifferAlong, AreOfOneKind, GoesThroughBoth, IsChange}
 use Rattle.jsonptr_diff.specs.PrivateDiff.{AppendsReplace, AppendsRemove, AppendsAdd, Appends, IsChangeBelow, AppendsChanges, IsPartBelow, AppendsParts, IsArray}
 use Rattle.jsonptr_diff.specs.PrivateSame.{IsSame}
 use Rattle.jsonptr_diff.proofs.SameLemmas.{twin_same, twin_made}

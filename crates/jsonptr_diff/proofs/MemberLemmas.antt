@@ -18,7 +18,7 @@ use Rattle.jsonptr_document.proofs.JsonLevel.{object_at}
 use Rattle.jsonptr_patch.specs.PrivateTesting as tested
 use Rattle.jsonptr_patch.specs.declared.operation.Operation.{Operation}
 use Rattle.jsonptr_patch.proofs.TestingLemmas.{object_label}
-use Rattle.jsonptr_diff.specs.Differing.{AreOfOneKind}
+use Rattle.jsonptr_diff.specs.Diff.{AreOfOneKind}
 use Rattle.jsonptr_diff.specs.PrivateSame.{IsSame, SameMember, SameMembers}
 use Rattle.jsonptr_diff.specs.PrivateDiff.{AppendsRemove, AppendsAdd, AppendsChanges, Turns, object_map, mixed}
 use Rattle.jsonptr_diff.proofs.TurningLemmas.{turns_nowhere, turns_further, turns_as, turns_part, turns_below, turns_remove_member, turns_add_member}

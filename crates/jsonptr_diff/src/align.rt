@@ -4,7 +4,7 @@ ghost use Rattle.serde_json.specs.declared.value.Value.{Value as a_value};
 ghost use Rattle.jsonptr_diff.specs.PrivateDiff.{IsGap};
 ghost use Rattle.jsonptr_diff.specs.PrivateSame.{IsSame};
 
-use crate::likeness::is_match;
+use crate::similarity::is_match;
 use serde_json::Value;
 
 /// How many elements of each array are searched for two that match.

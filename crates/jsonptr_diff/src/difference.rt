@@ -6,7 +6,7 @@ ghost use Rattle.jsonptr.specs.Json.{nodes, HasSortedKeys};
 ghost use Rattle.jsonptr_patch.specs.Order.{OperationHasSortedKeys};
 ghost use Rattle.jsonptr_patch.specs.Patching.{Patches};
 ghost use Rattle.jsonptr_patch.specs.declared.operation.Operation.{Operation as an_operation};
-ghost use Rattle.jsonptr_diff.specs.Differing.{AreOfOneKind, IsChange};
+ghost use Rattle.jsonptr_diff.specs.Diff.{AreOfOneKind, IsChange};
 ghost use Rattle.jsonptr_diff.specs.PrivateDiff.{tokens_of, Turns, AppendsChanges, AppendsParts, object_map, mixed, array_map, Splices};
 ghost use Rattle.jsonptr_diff.specs.PrivateSame.{AreSameFrom};
 
@@ -26,13 +26,14 @@ use std::alloc::{AllocError, Global};
 /// from that of `old` (RFC 6902, sections 4 and 5).
 ///
 /// The patch has additions, removals and replacements only. A member of an object that is the same in
-/// both is in no pointer. Nothing is added that `old` has, and nothing removed that `new` has. An
-/// object is not replaced by an object, nor an array by an array. As far as objects lead, a pointer
-/// leads through values that are an object in both, or an array in both
+/// both is in no pointer. No member is added to an object that has it, and none is removed that `new`
+/// has. An object is not replaced by an object, nor an array by an array. As far as objects lead, a
+/// pointer leads through values that are an object in both, or an array in both
 /// ([`change_law`](crate::laws::change::change_law)).
 ///
 /// - Members that both objects have are followed. The others are removed or added.
-/// - The common suffix of two arrays is left alone. Before it, elements that match are aligned:
+/// - The common suffix of two arrays is left alone, as far as its elements have at most 256 nodes.
+///   Before it, elements that match are aligned:
 ///   small ones that are the same, which are left alone, and large ones whose first parts are the
 ///   same, which are followed. Between these, elements are followed one by one, and those that are
 ///   left over are removed or inserted.
@@ -46,8 +47,8 @@ use std::alloc::{AllocError, Global};
 ///
 /// Takes time in proportion to both documents where few elements of arrays differ. To align two
 /// arrays, at most 64 elements ahead are searched for the next two that match. Beyond them the
-/// elements are followed one by one. So each element is compared with at most some 130 others of its
-/// array. Only elements of at most 256 nodes are compared as a whole, so a part of a larger one is
+/// elements are followed one by one. So a gap of `n` elements takes at most `(n + 1)²` comparisons, some
+/// 66 for each element that is passed. Only elements of at most 256 nodes are compared as a whole, so a part of a larger one is
 /// not compared again for each array around it.
 ///
 /// # Examples
@@ -68,7 +69,7 @@ use std::alloc::{AllocError, Global};
 ///
 /// [`AllocError`] if an allocation fails.
 pub fn diff(alloc: Global, old: &Value, new: &Value) -> Result<Vec<Operation>, AllocError>
-    ensures patch { IfOk result (λ patch.
+    ensures applied { IfOk result (λ patch.
         Patches (nodes (view old.now)) patch.items (nodes (view new.now))) }
     ensures changes { IfOk result (λ patch.
         All (IsChange (nodes (view old.now)) (nodes (view new.now))) patch.items) }
@@ -303,7 +304,7 @@ fn diff_gap(
 ) -> Result<(), AllocError>
     requires old { gap.from + gap.removed ≤ length old.now.items }
     requires new { gap.to + gap.added ≤ length gap.new.now.items }
-    ensures splices { IfOk result (λ _. (first : List an_operation) (left : ℕ)
+    ensures spliced { IfOk result (λ _. (first : List an_operation) (left : ℕ)
         → gap.entry.from + (gap.entry.removed + left) ≡ length old.now.items
         → Splices (view (an_array gap.entry.new.now)) first patch.old.items (tokens_of at.now)
         (array_map old.now) (array_map gap.entry.new.now) gap.entry.to gap.entry.from (gap.entry.removed + left)
@@ -358,7 +359,7 @@ fn follow_elements(
 ) -> Result<(), AllocError>
     requires old { pairs.from + pairs.count ≤ length old.now.items }
     requires new { pairs.to + pairs.count ≤ length pairs.new.now.items }
-    ensures splices { IfOk result (λ _. (first : List an_operation) (left : ℕ)
+    ensures spliced { IfOk result (λ _. (first : List an_operation) (left : ℕ)
         → pairs.entry.from + (pairs.entry.count + left) ≡ length old.now.items
         → Splices (view (an_array pairs.entry.new.now)) first patch.old.items (tokens_of at.now)
         (array_map old.now) (array_map pairs.entry.new.now) pairs.entry.to pairs.entry.from (pairs.entry.count + left)

@@ -25,7 +25,7 @@ pub fn remove_elements(
     at: &Trail<'_>,
     patch: &mut Vec<Operation>,
 ) -> Result<(), AllocError>
-    ensures splices { IfOk result (λ _.
+    ensures spliced { IfOk result (λ _.
         (goal : Data) (first : List an_operation) (c d : NodeMap) (len k left : ℕ)
         → IsArray c len → k + (count + left) ≤ len
         → Splices goal first patch.old.items (tokens_of at.now) c d index k (count + left)
@@ -64,7 +64,7 @@ pub fn add_elements(
 ) -> Result<(), AllocError>
     requires order { range.from ≤ range.to }
     requires within { range.to ≤ length new.now.items }
-    ensures splices { IfOk result (λ _. (first : List an_operation) (c : NodeMap) (k left : ℕ)
+    ensures spliced { IfOk result (λ _. (first : List an_operation) (c : NodeMap) (k left : ℕ)
         → Splices (view (an_array new.now)) first patch.old.items (tokens_of at.now)
         c (array_map new.now) range.from k left
         → Splices (view (an_array new.now)) first patch.new.items (tokens_of at.now)

@@ -26,9 +26,9 @@ mod align;
 mod difference;
 mod elements;
 pub mod laws;
-mod likeness;
 mod members;
 mod same;
+mod similarity;
 mod trail;
 mod write;
 

@@ -4,7 +4,7 @@ ghost use Rattle.serde_json.specs.View.{view};
 ghost use Rattle.jsonptr.specs.Json.{nodes};
 ghost use Rattle.jsonptr_diff.specs.PrivateSame.{IsSame, SameElements, SameMembers, SameSuffix};
 
-use crate::likeness::is_small;
+use crate::similarity::is_small;
 use jsonptr_value::is_same_number;
 use serde_json::{Map, Value};
 

@@ -115,8 +115,8 @@ impl DocumentMut for Value {
 
     fn remove(&mut self, way: &ChildRef<'_>) -> Option<Value> {
         match (self, way) {
-            (Value::Array(elements), ChildRef::Element(place)) if *place < elements.len() => {
-                Some(elements.remove(*place))
+            (Value::Array(elements), ChildRef::Element(index)) if *index < elements.len() => {
+                Some(elements.remove(*index))
             }
             (Value::Table(members), ChildRef::Member(key)) => members.remove(key.as_str()),
             _ => None,

@@ -9,15 +9,15 @@ use Rattle.jsonptr_io.specs.Lines.{IsOneLine}
 use Rattle.jsonptr_json_edits.specs.Spacing.{IsBlank, Splices}
 use Rattle.jsonptr_edit_in_text.specs.Bytes.{AddsPiece, CutsBytes, ReplacesBytes}
 
-turned : (old new was piece : Text) → Splices old new was piece → Splices new old piece was
-turned old new was piece h = record { before = h.before; after = h.after; old_is = h.new_is; new_is = h.old_is }
+turned : (old new middle piece : Text) → Splices old new middle piece → Splices new old piece middle
+turned old new middle piece h = record { before = h.before; after = h.after; old_is = h.new_is; new_is = h.old_is }
 
 pub put_back : (old new : Text) (tokens : List Text) (e : Data) (h : ReplacesBytes old new tokens e) → FindsInText new tokens e → ReplacesBytes new old tokens h.value
 put_back old new tokens e h found = record {
-  was = h.piece;
-  piece = h.was;
+  middle = h.piece;
+  piece = h.middle;
   value = e;
-  splices = turned old new h.was h.piece h.splices;
+  splices = turned old new h.middle h.piece h.splices;
   found = found;
   whole = h.made;
   made = h.whole;
@@ -26,9 +26,9 @@ put_back old new tokens e h found = record {
 pub cut_again : (old new : Text) (key : Option Text) (e : Data) → AddsPiece old new key e → (left blank : Text) × CutsBytes new left key e × IsBlank blank × Splices old left blank []
 cut_again old new key e h = (
   h.splices.before ++ h.splices.after,
-  h.was,
+  h.middle,
   record {
-    was = h.piece;
+    middle = h.piece;
     splices = record { before = h.splices.before; after = h.splices.after; old_is = h.splices.new_is; new_is = refl };
     child = h.child;
   },
@@ -38,9 +38,9 @@ cut_again old new key e h = (
 
 pub added_again : (old new : Text) (key : Option Text) (v : Data) → CutsBytes old new key v → AddsPiece new old key v
 added_again old new key v h = record {
-  was = [];
-  piece = h.was;
-  splices = turned old new h.was [] h.splices;
+  middle = [];
+  piece = h.middle;
+  splices = turned old new h.middle [] h.splices;
   blank = λ k d low. absurd (omega (arith, low));
   child = h.child;
 }
@@ -53,10 +53,10 @@ line_parts (x ∷ xs) ys h =
     let rest = line_parts xs ys (All-tail (λ b. b ≢ 10) x (xs ++ ys) h) in
     (All-cons (λ b. b ≢ 10) x xs (All-head (λ b. b ≢ 10) x (xs ++ ys) h) rest.0, rest.1)
 
-pub one_line_if : (old new was piece : Text) → Splices old new was piece → IsOneLine old → (IsOneLine new ↔ IsOneLine piece)
-one_line_if old new was piece h one =
-    let outer = line_parts h.before (was ++ h.after) (subst IsOneLine h.old_is one) in
-    let inner = line_parts was h.after outer.1 in (
+pub one_line_if : (old new middle piece : Text) → Splices old new middle piece → IsOneLine old → (IsOneLine new ↔ IsOneLine piece)
+one_line_if old new middle piece h one =
+    let outer = line_parts h.before (middle ++ h.after) (subst IsOneLine h.old_is one) in
+    let inner = line_parts middle h.after outer.1 in (
       λ k. (line_parts piece h.after (line_parts h.before (piece ++ h.after) (subst IsOneLine h.new_is k)).1).0,
       λ k. subst IsOneLine (sym h.new_is)
           (All-append (λ b. b ≢ 10) h.before (piece ++ h.after) outer.0 (All-append (λ b. b ≢ 10) piece h.after k inner.1)),

@@ -28,7 +28,7 @@ use Rattle.jsonptr_json_edits.specs.Child.{IsValueText, IsOneChild}
 use Rattle.jsonptr_edit_in_text.specs.Bytes.{IsScalar, ReplacesBytes, ExpandsBytes, GrowsBytes, CutsBytes, CutsInTurn, CutsMembers, CutsElement}
 use Rattle.jsonptr_edit_in_text.specs.Carrying.{value_of_raw}
 use Rattle.jsonptr_edit_in_text.specs.PatchInText.{AddsAtBytes}
-use Rattle.jsonptr_edit_in_text.specs.PrivateReaching.{ReachedInText, Trades, MemberAdded, ElementAppended, ReplacesByText, ReplacesScalarByText, AddsPieceByText, AddsByText}
+use Rattle.jsonptr_edit_in_text.specs.PrivateReaching.{ReachedInText, ReplacesCut, MemberAdded, ElementAppended, ReplacesByText, ReplacesScalarByText, AddsPieceByText, AddsByText}
 use Rattle.jsonptr_edit_in_text.specs.PrivateOperating.{ElementInserted, AddsAtByText}
 use Rattle.jsonptr_edit_in_text.specs.RawPatching.{AddsGiven, ReplacesGiven}
 use Rattle.jsonptr_edit_in_text.specs.declared.raw_value.RawValue.{RawValue}
@@ -56,35 +56,35 @@ found_is t tokens d e same h = subst (FindsInText t tokens) same h
 -- ---- a value replaced
 
 -- what the piece holds, the new text holds
-holds_new : (old new was piece flat : Text) → Splices old new was piece → HoldsTokens flat piece → HoldsTokens flat new
-holds_new old new was piece flat splices h = holds_within flat piece new splices.before splices.after splices.new_is h
+holds_new : (old new middle piece flat : Text) → Splices old new middle piece → HoldsTokens flat piece → HoldsTokens flat new
+holds_new old new middle piece flat splices h = holds_within flat piece new splices.before splices.after splices.new_is h
 
-pub replaced : (old new was piece flat : Text) (tokens : List Text) → Splices old new was piece → ReachedInText old new tokens (Trades was flat) → IsTrimmed was → ((e : Data) × (read flat ≡ Some e) × IsValueText e piece) → HoldsTokens flat piece → ReplacesByText old new tokens flat
-replaced old new was piece flat tokens splices h trimmed p holds = (
+pub replaced : (old new middle piece flat : Text) (tokens : List Text) → Splices old new middle piece → ReachedInText old new tokens (ReplacesCut middle flat) → IsTrimmed middle → ((e : Data) × (read flat ≡ Some e) × IsValueText e piece) → HoldsTokens flat piece → ReplacesByText old new tokens flat
+replaced old new middle piece flat tokens splices h trimmed p holds = (
   p.0,
   p.1,
-  record { was = was; piece = piece; value = h.4.at; splices = splices; found = found_old old new tokens (Trades was flat) h; whole = record { reads = h.4.changes.0; trimmed = trimmed }; made = p.2 },
-  holds_new old new was piece flat splices holds,
+  record { middle = middle; piece = piece; value = h.4.at; splices = splices; found = found_old old new tokens (ReplacesCut middle flat) h; whole = record { reads = h.4.changes.0; trimmed = trimmed }; made = p.2 },
+  holds_new old new middle piece flat splices holds,
   holds,
 )
 
-pub replaced_scalar : (old new was piece flat : Text) (tokens : List Text) (d : Data) → Splices old new was piece → ReachedInText old new tokens (Trades was flat) → IsTrimmed was → ((e : Data) × (read flat ≡ Some e) × IsValueText e piece) → HoldsTokens flat piece → read was ≡ Some d → IsScalar d
+pub replaced_scalar : (old new middle piece flat : Text) (tokens : List Text) (d : Data) → Splices old new middle piece → ReachedInText old new tokens (ReplacesCut middle flat) → IsTrimmed middle → ((e : Data) × (read flat ≡ Some e) × IsValueText e piece) → HoldsTokens flat piece → read middle ≡ Some d → IsScalar d
     → ReplacesScalarByText old new tokens flat
-replaced_scalar old new was piece flat tokens d splices h trimmed p holds reads scalar = (
+replaced_scalar old new middle piece flat tokens d splices h trimmed p holds reads scalar = (
   p.0,
   p.1,
   (
-    record { was = was; piece = piece; value = h.4.at; splices = splices; found = found_old old new tokens (Trades was flat) h; whole = record { reads = h.4.changes.0; trimmed = trimmed }; made = p.2 },
-    subst IsScalar (one_value was d h.4.at reads h.4.changes.0) scalar,
+    record { middle = middle; piece = piece; value = h.4.at; splices = splices; found = found_old old new tokens (ReplacesCut middle flat) h; whole = record { reads = h.4.changes.0; trimmed = trimmed }; made = p.2 },
+    subst IsScalar (one_value middle d h.4.at reads h.4.changes.0) scalar,
   ),
-  holds_new old new was piece flat splices holds,
+  holds_new old new middle piece flat splices holds,
 )
 
-pub replaced_member : (old new : Text) (front : List Text) (x was piece flat : Text) → Splices old new was piece → ReachedInText old new front (ChangesChild (x, None) (Trades was flat)) → IsTrimmed was → ((e : Data) × (read flat ≡ Some e) × IsValueText e piece) → HoldsTokens flat piece
+pub replaced_member : (old new : Text) (front : List Text) (x middle piece flat : Text) → Splices old new middle piece → ReachedInText old new front (ChangesChild (x, None) (ReplacesCut middle flat)) → IsTrimmed middle → ((e : Data) × (read flat ≡ Some e) × IsValueText e piece) → HoldsTokens flat piece
     → ReplacesByText old new (front ++ x ∷ []) flat
-replaced_member old new front x was piece flat splices h trimmed p holds = at h.4.changes
+replaced_member old new front x middle piece flat splices h trimmed p holds = at h.4.changes
   where
-    at : ChangesChild (x, None) (Trades was flat) h.4.at h.4.at2 → ReplacesByText old new (front ++ x ∷ []) flat
+    at : ChangesChild (x, None) (ReplacesCut middle flat) h.4.at h.4.at2 → ReplacesByText old new (front ++ x ∷ []) flat
     at (inl m) = absurd (cc)
     at (inr m) =
         let object_there : content_at h.4.path (content h.0) ≡ Some (content (json.object m.ms)) = h.4.there ∙ ap (λ (y : Data). Some (content y)) m.old in
@@ -93,7 +93,7 @@ replaced_member old new front x was piece flat splices h trimmed p holds = at h.
           p.0,
           p.1,
           record {
-            was = was;
+            middle = middle;
             piece = piece;
             value = m.at;
             splices = splices;
@@ -109,7 +109,7 @@ replaced_member old new front x was piece flat splices h trimmed p holds = at h.
             whole = record { reads = m.changes.0; trimmed = trimmed };
             made = p.2;
           },
-          holds_new old new was piece flat splices holds,
+          holds_new old new middle piece flat splices holds,
           holds,
         )
 
@@ -122,8 +122,8 @@ expands old new front more flat v e reads is h =
 
 -- ---- a child added
 
-pub piece_added : (old new was piece flat : Text) (k : Option Text) → Splices old new was piece → IsBlank was → ((e : Data) × (read flat ≡ Some e) × IsOneChild k e piece) → HoldsTokens flat piece → AddsPieceByText old new k flat
-piece_added old new was piece flat k splices blank p holds = (p.0, p.1, record { was = was; piece = piece; splices = splices; blank = blank; child = p.2 }, holds_new old new was piece flat splices holds, holds)
+pub piece_added : (old new middle piece flat : Text) (k : Option Text) → Splices old new middle piece → IsBlank middle → ((e : Data) × (read flat ≡ Some e) × IsOneChild k e piece) → HoldsTokens flat piece → AddsPieceByText old new k flat
+piece_added old new middle piece flat k splices blank p holds = (p.0, p.1, record { middle = middle; piece = piece; splices = splices; blank = blank; child = p.2 }, holds_new old new middle piece flat splices holds, holds)
 
 pub adds_new_member : (old new : Text) (front : List Text) (x flat : Text) → ReachedInText old new front (MemberAdded x flat) → AddsPieceByText old new (Some x) flat → AddsByText old new front x flat
 adds_new_member old new front x flat h p =

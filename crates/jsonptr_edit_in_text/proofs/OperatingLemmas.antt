@@ -22,7 +22,7 @@ use Rattle.jsonptr_in_text.specs.Selecting.{AreChoicesOf}
 use Rattle.jsonptr_in_text.proofs.SearchLemmas.{len_same, found}
 use Rattle.jsonptr_patch.specs.Adding.{MeansPlace, AddsUnder, AddsBelow, Adds}
 use Rattle.jsonptr_patch.specs.Inserting.{with_place}
-use Rattle.jsonptr_patch.specs.Operating.{IsProperFront, Takes, AppliesBy}
+use Rattle.jsonptr_patch.specs.Operating.{IsProperPrefix, Takes, AppliesBy}
 use Rattle.jsonptr_patch.specs.Patching.{PatchesBy}
 use Rattle.jsonptr_patch.specs.declared.operation.Operation.{Operation}
 use Rattle.jsonptr_patch.specs.declared.operation.Operation.TheVariants.{Test}
@@ -35,7 +35,7 @@ use Rattle.jsonptr_json_edits.specs.Leading.{LeadsInText}
 use Rattle.jsonptr_json_edits.specs.declared.edit.Edit.TheVariants.{Replace}
 use Rattle.jsonptr_edit_in_text.specs.EditInText.{DeletesInText}
 use Rattle.jsonptr_edit_in_text.specs.PatchInText.{PatchesInText}
-use Rattle.jsonptr_edit_in_text.specs.PrivateReaching.{ReachedInText, Becomes, Trades, MemberAdded, ElementAppended}
+use Rattle.jsonptr_edit_in_text.specs.PrivateReaching.{ReachedInText, Becomes, ReplacesCut, MemberAdded, ElementAppended}
 use Rattle.jsonptr_edit_in_text.specs.PrivateOperating.{OperatesInText, PutsInText, AddsValueInText, AddsInText, FindsText, MovesInText, CopiesInText, PassesInText, ElementInserted, AreMemberChoices}
 use Rattle.jsonptr_edit_in_text.proofs.EditLemmas.{same_data, label_there, map_there, member_map}
 use Rattle.jsonptr_edit_in_text.proofs.ReachingLemmas.{item_content, below, same_below, put_level, in_object, reached_in_text}
@@ -166,16 +166,16 @@ reached_child old new front x cs R are h =
     reached_in_text old new front are.0 (ChangesChild (x, None) R) are.2
     (h.0, h.1, h.2, h.3, changes_last are.0 (x, None) R h.0 h.1 (subst (λ (ss : List Choice). ChangesAt ss R h.0 h.1) are.1 h.4))
 
-pub traded : (old cut new : Text) (front : List Text) (x : Text) (cs : List Choice) (before after : String Global) (was flat : Text) → cut ≡ old → AreMemberChoices front x cs → string_bytes before ≡ was → string_bytes after ≡ flat → IsEdited cut new cs (Replace before after) → ReachedInText old new front (ChangesChild (x, None) (Trades was flat))
-traded old cut new front x cs before after was flat same are is_was is_flat h =
-    subst (λ (w : Text). ReachedInText old new front (ChangesChild (x, None) (Trades w flat))) is_was
-    (subst (λ (f : Text). ReachedInText old new front (ChangesChild (x, None) (Trades (string_bytes before) f))) is_flat
-    (reached_child old new front x cs (Trades (string_bytes before) (string_bytes after)) are (subst (λ (t : Text). IsEdited t new cs (Replace before after)) same h)))
+pub replaced_cut : (old cut new : Text) (front : List Text) (x : Text) (cs : List Choice) (before after : String Global) (middle flat : Text) → cut ≡ old → AreMemberChoices front x cs → string_bytes before ≡ middle → string_bytes after ≡ flat → IsEdited cut new cs (Replace before after) → ReachedInText old new front (ChangesChild (x, None) (ReplacesCut middle flat))
+replaced_cut old cut new front x cs before after middle flat same are is_middle is_flat h =
+    subst (λ (w : Text). ReachedInText old new front (ChangesChild (x, None) (ReplacesCut w flat))) is_middle
+    (subst (λ (f : Text). ReachedInText old new front (ChangesChild (x, None) (ReplacesCut (string_bytes before) f))) is_flat
+    (reached_child old new front x cs (ReplacesCut (string_bytes before) (string_bytes after)) are (subst (λ (t : Text). IsEdited t new cs (Replace before after)) same h)))
 
-pub adds_in_place_of : (old new : Text) (front : List Text) (x was flat : Text) → ReachedInText old new front (ChangesChild (x, None) (Trades was flat)) → AddsInText old (front ++ x ∷ []) flat new
-adds_in_place_of old new front x was flat h = at h.4.changes
+pub adds_in_place_of : (old new : Text) (front : List Text) (x middle flat : Text) → ReachedInText old new front (ChangesChild (x, None) (ReplacesCut middle flat)) → AddsInText old (front ++ x ∷ []) flat new
+adds_in_place_of old new front x middle flat h = at h.4.changes
   where
-    at : ChangesChild (x, None) (Trades was flat) h.4.at h.4.at2 → AddsInText old (front ++ x ∷ []) flat new
+    at : ChangesChild (x, None) (ReplacesCut middle flat) h.4.at h.4.at2 → AddsInText old (front ++ x ∷ []) flat new
     at (inl m) = absurd (cc)
     at (inr m) = (
       h.0,
@@ -209,7 +209,7 @@ copies old new from path flat found added =
       },
     )
 
-pub moves : (old left new : Text) (from path : List Text) (flat : Text) → (IsProperFront from path → ⊥) → FindsText old from flat → DeletesInText old from left → AddsInText left path flat new → MovesInText old from path new
+pub moves : (old left new : Text) (from path : List Text) (flat : Text) → (IsProperPrefix from path → ⊥) → FindsText old from flat → DeletesInText old from left → AddsInText left path flat new → MovesInText old from path new
 moves old left new from path flat apart found deleted added =
     let d = found.2.0 in
     let old_same : deleted.0 ≡ d = one_reading old deleted.0 d deleted.2 found.2.1 in

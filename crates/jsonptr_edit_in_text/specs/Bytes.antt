@@ -23,12 +23,12 @@ IsScalar d = (a : Scalar) × (label_of (content d) ≡ a_leaf a)
 -- `ReplacesBytes old new tokens e`: `new` is the text `old` with exactly the text of the value that all of `tokens`
 -- identify replaced by exactly a text of the value `e`. Neither has white space around it
 pub record ReplacesBytes (old new : Text) (tokens : List Text) (e : Data) : Type 0 where
-  pub was : Text
+  pub middle : Text
   pub piece : Text
   pub value : Data
-  pub splices : Splices old new was piece
+  pub splices : Splices old new middle piece
   pub found : FindsInText old tokens value
-  pub whole : IsValueText value was
+  pub whole : IsValueText value middle
   pub made : IsValueText e piece
 
 -- `ExpandsBytes old new front more v`: `tokens` lead no further than `front`, to a scalar, and exactly its text is replaced
@@ -42,10 +42,10 @@ pub record ExpandsBytes (old new : Text) (front more : List Text) (v : Data) : T
 -- `AddsPiece old new key e`: `new` is the text `old` with the text of one child more, a member with the key or an element if
 -- there is none, with the value `e`, at most one comma, and white space. Except for white space, no byte of `old` is replaced
 pub record AddsPiece (old new : Text) (key : Option Text) (e : Data) : Type 0 where
-  pub was : Text
+  pub middle : Text
   pub piece : Text
-  pub splices : Splices old new was piece
-  pub blank : IsBlank was
+  pub splices : Splices old new middle piece
+  pub blank : IsBlank middle
   pub child : IsOneChild key e piece
 
 -- `LacksMember old front x`: `front` leads to an object that has no member with the key `x`
@@ -74,9 +74,9 @@ GrowsBytes old new front x rest v = (e : Data) × (nodes e ≡ grown rest (nodes
 -- `CutsBytes old new key v`: `new` is the text `old` without the text of one child, a member with the key or an element if
 -- there is none, with the value `v`, at most one comma, and white space
 pub record CutsBytes (old new : Text) (key : Option Text) (v : Data) : Type 0 where
-  pub was : Text
-  pub splices : Splices old new was []
-  pub child : IsOneChild key v was
+  pub middle : Text
+  pub splices : Splices old new middle []
+  pub child : IsOneChild key v middle
 
 -- `CutsInTurn x old mids new`: `new` comes from `old` by cutting out a member with the key `x` for each of the texts `mids`,
 -- which are the texts before each cut, the last one first

@@ -33,8 +33,9 @@ AssignsInText old tokens v new =
 abbrev pub IsTooDeep : NodeMap → Type 0
 IsTooDeep m = NestsWithin max_depth m → ⊥
 
--- `IsAssignError old tokens v e`: `e` is why assigning `v` at the tokens in the text `old` fails, if it is not for memory. Of
--- a value `v` whose keys are sorted, as those of each value that is read, `TooDeep` says that the new document is too deep
+-- `IsAssignError old tokens v e`: `e` is why assigning `v` at the tokens in the text `old` fails, unless an allocation
+-- failed. Of a value `v` whose keys are sorted, as those of each value that is read, `TooDeep` says that the new
+-- document is too deep
 abbrev pub IsAssignError : Text → List Text → Data → EditError AssignError → Type 0
 IsAssignError old tokens v NotJson = read old ≡ None
 IsAssignError old tokens v (Refused e) = (d : Data) × (read old ≡ Some d) × RefusesAssign (nodes d) tokens e

@@ -17,7 +17,8 @@ pub record IsIndented (text new : Text) : Type 0 where
   pub same : tokens new ≡ tokens text
   pub reads : read new ≡ Some document
 
--- `IsIndentError text e`: `e` is why `text` is not laid out, if it is not for memory or for the indentation
+-- `IsIndentError text e`: `e` is why `text` is not laid out, unless an allocation failed or the indentation is not
+-- white space
 abbrev pub IsIndentError : Text → IndentError → Type 0
 IsIndentError text NotJson = read text ≡ None
 IsIndentError text NotWhiteSpace = ⊤

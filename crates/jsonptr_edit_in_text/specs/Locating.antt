@@ -31,8 +31,8 @@ IsLocatedAt text k tokens before piece after = IsLocated text tokens before piec
 abbrev pub IsOutside : Text → ℕ → Type 0
 IsOutside text k = (before piece after : Text) × IsLocated text [] before piece after × (Contains before piece k → ⊥)
 
--- `IsLocateError text tokens e`: `e` is why the bytes of the value are not found, if it is not for memory. With `NotLocated`
--- the value is there
+-- `IsLocateError text tokens e`: `e` is why the bytes of the value are not found, unless an allocation failed. With
+-- `NotLocated` the value is there
 abbrev pub IsLocateError : Text → List Text → LocateError → Type 0
 IsLocateError text tokens NotJson = read text ≡ None
 IsLocateError text tokens (Resolve e) = RefusesInText text tokens e

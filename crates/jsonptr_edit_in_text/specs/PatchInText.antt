@@ -62,8 +62,8 @@ abbrev pub PatchBytes : Text → List Operation → Text → Type 0
 PatchBytes old [] new = new ≡ old
 PatchBytes old (o ∷ os) new = (mid : Text) × OperationBytes old o mid × PatchBytes mid os new
 
--- `IsPatchError text os e`: `e` is why applying the operations `os` in the text fails, if it is not for memory. `TooDeep` says
--- that the new document is too deep, if the keys of their values are sorted
+-- `IsPatchError text os e`: `e` is why applying the operations `os` in the text fails, unless an allocation failed.
+-- `TooDeep` says that the new document is too deep, if the keys of their values are sorted
 abbrev pub IsPatchError : Text → List Operation → EditError PatchError → Type 0
 IsPatchError text os NotJson = read text ≡ None
 IsPatchError text os (Refused e) = (d : Data) × (read text ≡ Some d) × RefusesPatchBy Numeric (nodes d) os e

@@ -44,9 +44,9 @@ abbrev pub AppendsAt : Text → Data → Data → Data → Type 0
 AppendsAt x e d d2 = (ds ds2 : Items) × (d ≡ array ds) × (d2 ≡ array ds2) × InsertsItem (items_count ds) e ds ds2
     × ((x ≡ codes "-") ⊎ (x ≡ dec (items_count ds)))
 
--- `Trades was piece d d2`: `d` is the value of the text `was`, and `d2` that of the text `piece`
-abbrev pub Trades : Text → Text → Data → Data → Type 0
-Trades was piece d d2 = (read was ≡ Some d) × (read piece ≡ Some d2)
+-- `ReplacesCut middle piece d d2`: `d` is the value of the text `middle`, and `d2` that of the text `piece`
+abbrev pub ReplacesCut : Text → Text → Data → Data → Type 0
+ReplacesCut middle piece d d2 = (read middle ≡ Some d) × (read piece ≡ Some d2)
 
 -- `Becomes piece d d2`: `d2` is the value of the text `piece`
 abbrev pub Becomes : Text → Data → Data → Type 0

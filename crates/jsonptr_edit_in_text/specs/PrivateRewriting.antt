@@ -12,7 +12,7 @@ IsShortened tokens front =
     (front ≡ tokens)
     ⊎ ((rest : List Text) × (tokens ≡ front ++ rest) × (max_depth < length front))
 
--- `IsPrintError d e`: `e` is why the document `d` is not printed, if it is not for memory
+-- `IsPrintError d e`: `e` is why the document `d` is not printed, unless an allocation failed
 abbrev pub IsPrintError : {E : Type 0} → Data → EditError E → Type 0
 IsPrintError d NotJson = ⊥
 IsPrintError d (Refused e) = ⊥

@@ -20,6 +20,7 @@ use jsonptr_json_edits::locate::place_of;
 use jsonptr_json_edits::spacing::is_trimmed;
 use jsonptr_json_edits::value_text::ValueText;
 use jsonptr_json_search::selector::Selector;
+use jsonptr_walk::put::key_of;
 use std::alloc::{AllocError, Global};
 
 /// Adds the value at the pointer. Returns `None` if that is not possible.
@@ -51,9 +52,9 @@ pub fn add_at(
                 pointer: front,
                 place: &place,
             };
-            if place.followed == selectors.len() {
+            if place.depth == selectors.len() {
                 replace_member(alloc, buffers, &site, &token, printed)
-            } else if place.followed.checked_add(1) == Some(selectors.len()) {
+            } else if place.depth.checked_add(1) == Some(selectors.len()) {
                 add_new(alloc, buffers, &site, &token, printed)
             } else {
                 Ok(None)
@@ -72,7 +73,7 @@ fn member_selectors(
         (λ v. AreMemberChoices (tokens pointer.entry) token.now (choices v.items)) }
 {
     let mut selectors = selectors_of(alloc, pointer)?;
-    let key = token.decoded(alloc)?.into_owned(alloc)?;
+    let key = key_of(alloc, token)?;
     selectors.push(Selector { key, index: None })?;
     Ok(selectors)
 }
@@ -97,11 +98,11 @@ fn replace_member(
     let Some(cut) = cut_at(site.text, span.from, span.to) else {
         return Ok(None);
     };
-    if !is_trimmed(cut.was) {
+    if !is_trimmed(cut.middle) {
         return Ok(None);
     }
     let edit = Edit::Replace {
-        old: String::from_str(alloc, cut.was)?,
+        old: String::from_str(alloc, cut.middle)?,
         new: printed.flat.clone()?,
     };
     let made = replacement(alloc, site.text, site.place, printed)?;

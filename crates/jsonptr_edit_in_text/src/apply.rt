@@ -157,7 +157,8 @@ fn apply_plain(
 }
 
 /// Applies the operations in order to the text, each in place, with the texts of their values. Returns
-/// `None` where [`apply_raw_in_text_with`] prints the document anew, and for each of its errors.
+/// `None` where [`apply_raw_in_text_with`] prints the document anew, and for each of its errors but a
+/// failed allocation.
 ///
 /// So one list of operations serves many texts.
 ///

@@ -15,29 +15,29 @@ use std::alloc::{AllocError, Global};
 /// # Errors
 ///
 /// [`AllocError`] if an allocation fails.
-pub fn as_written(alloc: Global, text: ValueText, written: &str) -> Result<ValueText, AllocError>
-    ensures { IfOk result (λ t. lexed (string_bytes t.flat) ≡ lexed (string_bytes text.flat)) }
+pub fn as_written(alloc: Global, printed: ValueText, written: &str) -> Result<ValueText, AllocError>
+    ensures { IfOk result (λ t. lexed (string_bytes t.flat) ≡ lexed (string_bytes printed.flat)) }
 {
     if has_escape(written) {
-        with_escapes(alloc, text, written)
+        with_escapes(alloc, printed, written)
     } else {
-        Ok(text)
+        Ok(printed)
     }
 }
 
 /// Does what [`as_written`] does, for a text that may have escapes. Its buffers are large locals, which
 /// each call clears.
 #[inline(never)]
-fn with_escapes(alloc: Global, text: ValueText, written: &str) -> Result<ValueText, AllocError>
-    ensures { IfOk result (λ t. lexed (string_bytes t.flat) ≡ lexed (string_bytes text.flat)) }
+fn with_escapes(alloc: Global, printed: ValueText, written: &str) -> Result<ValueText, AllocError>
+    ensures { IfOk result (λ t. lexed (string_bytes t.flat) ≡ lexed (string_bytes printed.flat)) }
 {
-    let flat = with_strings(alloc, text.flat.as_str(), written)?;
+    let flat = with_strings(alloc, printed.flat.as_str(), written)?;
     let mut buffers = Buffers::new(alloc);
-    if is_value_of(&mut buffers, flat.as_str(), text.flat.as_str())? {
-        let lines = with_strings(alloc, text.lines.as_str(), written)?;
+    if is_value_of(&mut buffers, flat.as_str(), printed.flat.as_str())? {
+        let lines = with_strings(alloc, printed.lines.as_str(), written)?;
         Ok(ValueText { flat, lines })
     } else {
-        Ok(text)
+        Ok(printed)
     }
 }
 

@@ -137,20 +137,20 @@ pub fn assign_raw_in_text_with(
     buffers: &mut Buffers,
     text: &str,
     pointer: Pointer<'_>,
-    value: &RawValue,
+    raw: &RawValue,
 ) -> Result<Edited, EditError<assign::Error>>
     ensures assigned { IfOk result (λ e. AssignsInText text.now (tokens pointer.entry)
-        (nodes (value_of_raw value.now)) (edited_text e)) }
+        (nodes (value_of_raw raw.now)) (edited_text e)) }
     ensures bytes { IfOk result
-        (KeepsBytes (AssignsBytes text.now (tokens pointer.entry) (value_of_raw value.now))) }
-    ensures carries { IfOk result (KeepsBytes (Carries (string_bytes value.now.text.flat))) }
+        (KeepsBytes (AssignsBytes text.now (tokens pointer.entry) (value_of_raw raw.now))) }
+    ensures carries { IfOk result (KeepsBytes (Carries (string_bytes raw.now.text.flat))) }
     ensures refused { IfErr result (IsAssignError text.now (tokens pointer.entry)
-        (value_of_raw value.now)) }
+        (value_of_raw raw.now)) }
 {
-    if let Some(new) = try_assign(alloc, buffers, text, pointer, value)? {
+    if let Some(new) = try_assign(alloc, buffers, text, pointer, raw)? {
         return Ok(Edited::InPlace(new));
     }
-    let new = assign_and_print(alloc, text, pointer, value.to_value(alloc)?)?;
+    let new = assign_and_print(alloc, text, pointer, raw.to_value(alloc)?)?;
     Ok(Edited::Rewritten(new))
 }
 
@@ -178,7 +178,7 @@ fn try_assign(
     let Some(place) = place_of(alloc, buffers, text, &selectors)? else {
         return Ok(None);
     };
-    let Some((front, rest)) = pointer.split_at(place.followed) else {
+    let Some((front, rest)) = pointer.split_at(place.depth) else {
         return Ok(None);
     };
     let site = Site {
@@ -208,8 +208,8 @@ fn assign_from(
     let Some((token, after)) = rest.split_front() else {
         return assign_there(alloc, buffers, site, raw);
     };
-    let there = site.slice();
-    if there.starts_with('{') || there.starts_with('[') {
+    let text_there = site.slice();
+    if text_there.starts_with('{') || text_there.starts_with('[') {
         let missing = Missing {
             token: &token,
             after,

@@ -40,7 +40,7 @@ pub fn edit_by(
     ensures edited { IfOk result (λ new. IfSome new (λ s.
         IsEdited cut.now.text.now (string_bytes s) (choices at.entry.selectors.now) at.entry.edit.now)) }
     ensures spliced { IfOk result (λ new. IfSome new (λ s.
-        Splices cut.now.text.now (string_bytes s) cut.now.was.now piece.now)) }
+        Splices cut.now.text.now (string_bytes s) cut.now.middle.now piece.now)) }
 {
     let new = splice(alloc, cut, piece)?;
     if is_edited(buffers, cut.text, new.as_str(), at)? {
@@ -90,7 +90,7 @@ pub fn edit_at(
     ensures reached { IfOk result (λ new. IfSome new (λ s. ReachedInText cut.now.text.now
         (string_bytes s) (tokens at.now.pointer) (Makes at.now.edit.now))) }
     ensures spliced { IfOk result (λ new. IfSome new (λ s.
-        Splices cut.now.text.now (string_bytes s) cut.now.was.now piece.now)) }
+        Splices cut.now.text.now (string_bytes s) cut.now.middle.now piece.now)) }
 {
     let selectors = selectors_of(alloc, at.pointer)?;
     let by = EditAt {

@@ -92,20 +92,20 @@ pub fn assign_raw_in_place(
     buffers: &mut Buffers,
     text: &str,
     pointer: Pointer<'_>,
-    value: &RawValue,
+    raw: &RawValue,
 ) -> Result<String, InPlaceError<EditError<assign::Error>>>
     ensures assigned { IfOk result (λ s. AssignsInText text.now (tokens pointer.entry)
-        (nodes (value_of_raw value.now)) (string_bytes s)) }
+        (nodes (value_of_raw raw.now)) (string_bytes s)) }
     ensures bytes { IfOk result (λ s.
-        AssignsBytes text.now (tokens pointer.entry) (value_of_raw value.now) (string_bytes s)) }
-    ensures carries { IfOk result (λ s. Carries (string_bytes value.now.text.flat) (string_bytes s)) }
+        AssignsBytes text.now (tokens pointer.entry) (value_of_raw raw.now) (string_bytes s)) }
+    ensures carries { IfOk result (λ s. Carries (string_bytes raw.now.text.flat) (string_bytes s)) }
     ensures one_line { IfOk result (λ s. StaysOneLine text.now (string_bytes s)) }
     ensures refused { IfErr result (IsInPlaceError
-        (AssignsInText text.now (tokens pointer.entry) (nodes (value_of_raw value.now)))
+        (AssignsInText text.now (tokens pointer.entry) (nodes (value_of_raw raw.now)))
         (IsAssignError text.now (tokens pointer.entry)
-        (value_of_raw value.now))) }
+        (value_of_raw raw.now))) }
 {
-    match assign_raw_in_text_with(alloc, buffers, text, pointer, value) {
+    match assign_raw_in_text_with(alloc, buffers, text, pointer, raw) {
         Ok(edited) => kept_in_place(text, edited).ok_or(InPlaceError::NotInPlace),
         Err(error) => Err(InPlaceError::Edit(error)),
     }

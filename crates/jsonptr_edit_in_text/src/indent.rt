@@ -43,7 +43,7 @@ impl From<ReadError> for IndentError {
 /// # Errors
 ///
 /// - [`IndentError::NotJson`] if `serde_json` does not read the text.
-/// - [`IndentError::NotWhiteSpace`] if the indentation is not white space.
+/// - [`IndentError::NotWhiteSpace`] if the indentation is not white space, and a line has one.
 /// - [`IndentError::Memory`] if an allocation fails.
 ///
 /// # Examples

@@ -176,7 +176,7 @@ fn put_child(
         return Ok(None);
     };
     let added = piece.text.as_str();
-    if !is_blank(cut.was)
+    if !is_blank(cut.middle)
         || !is_one_child(buffers, added, piece.child, child.key, Some(child.value))?
     {
         return Ok(None);

@@ -31,8 +31,8 @@ pub fn undo_law()
 /// States that a text of one line in which a piece is replaced is one line exactly if the new piece
 /// has no line feed.
 pub fn line_law()
-    ensures { (old new was piece : Text)
-        → Splices old new was piece → IsOneLine old → (IsOneLine new ↔ IsOneLine piece) }
+    ensures { (old new middle piece : Text)
+        → Splices old new middle piece → IsOneLine old → (IsOneLine new ↔ IsOneLine piece) }
 {}
 
 /// States that operations with the texts of their values change the bytes that the operations alone say.

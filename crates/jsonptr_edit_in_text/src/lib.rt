@@ -16,10 +16,12 @@
 //!   offset.
 //! - [`laws`] states that the bytes of an edit can be put back.
 //!
-//! Each call makes two promises. *Meaning*: the new text reads as the document that the call on
-//! documents makes of the document that the old text reads as. *Bytes*: a value that is replaced
-//! changes exactly its own bytes, a child that is added replaces none but white space, and a child
-//! that is removed takes at most one comma and the white space beside it along.
+//! Each edit makes two promises, the second one if the result is [`Edited::InPlace`]:
+//!
+//! - *Meaning*: the new text reads as the document that the call on documents makes of the document
+//!   that the old text reads as.
+//! - *Bytes*: replacing a value changes exactly its own bytes. Adding a child replaces only white space.
+//!   Removing a child also removes at most one comma and the white space beside it.
 //!
 //! To edit many texts keep one [`Buffers`], and pass it to each call that takes one: it keeps its
 //! memory from text to text.

@@ -129,7 +129,7 @@ pub fn locate_in_text_with<'t>(
     match cut_around(alloc, buffers, text, pointer) {
         Ok(Some(cut)) => Ok(Located {
             before: cut.before,
-            value: cut.was,
+            value: cut.middle,
             after: cut.after,
         }),
         Ok(None) => match resolve_in_text_with(alloc, &mut buffers.old, text, pointer) {
@@ -148,7 +148,7 @@ fn cut_around<'t>(
     pointer: Pointer<'_>,
 ) -> Result<Option<Cut<'t>>, AllocError>
     ensures { IfOk result (λ found. IfSome found (λ c. IsLocated text.now (tokens pointer.entry)
-        c.before.now c.was.now c.after.now)) }
+        c.before.now c.middle.now c.after.now)) }
 {
     let selectors = selectors_of(alloc, pointer)?;
     let Some(place) = place_at(alloc, buffers, text, &selectors)? else {
@@ -160,9 +160,9 @@ fn cut_around<'t>(
     let target = Route {
         selectors: &selectors,
         positions: &place.positions,
-        value: cut.was,
+        value: cut.middle,
     };
-    if is_trimmed(cut.was) && leads_to(buffers, text, target)? {
+    if is_trimmed(cut.middle) && leads_to(buffers, text, target)? {
         Ok(Some(cut))
     } else {
         Ok(None)

@@ -18,7 +18,7 @@ use crate::value_text::value_text;
 use jsonptr::Pointer;
 use jsonptr_in_text::{InTextError, resolve_in_text_with};
 use jsonptr_json_edits::buffers::Buffers;
-use jsonptr_patch::{Comparison, Operation, is_equal, is_proper_front};
+use jsonptr_patch::{Comparison, Operation, is_equal, is_proper_prefix};
 use serde_json::Value;
 use std::alloc::{AllocError, Global};
 
@@ -147,7 +147,7 @@ fn move_value(
     ensures bytes { IfOk result (λ new. IfSome new (λ s.
         MovesBytes text.now (tokens from.entry) (tokens path.entry) (string_bytes s))) }
 {
-    if is_proper_front(from, path) {
+    if is_proper_prefix(from, path) {
         return Ok(None);
     }
     let Some(printed) = value_at(alloc, buffers, text, from)? else {

@@ -14,6 +14,7 @@ use jsonptr_json_edits::cut::cut_at;
 use jsonptr_json_edits::layout::slice;
 use jsonptr_json_edits::locate::{Extent, Span, children_of, place_of};
 use jsonptr_json_edits::spacing::is_trimmed;
+use jsonptr_json_search::decide::is_text;
 use jsonptr_json_search::selector::Selector;
 use jsonptr_patch::Operation;
 use jsonptr_value::if_json;
@@ -63,7 +64,7 @@ pub fn raw_operations(
         let Some(operation) = with_own(alloc, operation, raw)? else {
             return Ok(None);
         };
-        keep(&mut raws, operation)?;
+        append(&mut raws, operation)?;
         index = index.saturating_add(1);
     }
     Ok(Some(raws))
@@ -152,11 +153,11 @@ fn own_text(
 ) -> Result<Option<RawValue>, AllocError>
     ensures { IfOk result (λ found. IfSome found (λ raw. HoldsTokens (string_bytes raw.text.flat) text.now)) }
 {
-    let there = slice(text, object.from, object.to);
-    let Some(place) = place_of(alloc, buffers, there, selectors)? else {
+    let text_there = slice(text, object.from, object.to);
+    let Some(place) = place_of(alloc, buffers, text_there, selectors)? else {
         return Ok(None);
     };
-    if place.followed == 0 {
+    if place.depth == 0 {
         return Ok(None);
     }
     let from = object.from.saturating_add(place.value.from);
@@ -164,10 +165,10 @@ fn own_text(
     let Some(cut) = cut_at(text, from, to) else {
         return Ok(None);
     };
-    if !is_trimmed(cut.was) {
+    if !is_trimmed(cut.middle) {
         return Ok(None);
     }
-    if_json(RawValue::parse(alloc, cut.was))
+    if_json(RawValue::parse(alloc, cut.middle))
 }
 
 /// Returns the operations without texts, so that their values are printed.
@@ -191,7 +192,7 @@ pub fn printed_operations(
 {
     let mut raws = Vec::new(alloc);
     for operation in operations {
-        keep(&mut raws, RawOperation::new(operation))?;
+        append(&mut raws, RawOperation::new(operation))?;
     }
     Ok(raws)
 }
@@ -211,8 +212,8 @@ pub fn plain(alloc: Global, raws: Vec<RawOperation>) -> Result<Vec<Operation>, A
     Ok(operations)
 }
 
-/// Appends an operation.
-fn keep(raws: &mut Vec<RawOperation>, operation: RawOperation) -> Result<(), AllocError>
+/// Appends an operation. A function of its own, so that the proof of the loop can name it.
+fn append(raws: &mut Vec<RawOperation>, operation: RawOperation) -> Result<(), AllocError>
     ensures { IfOk result (λ _. raws.new.items ≡ raws.old.items ++ operation ∷ []) }
 {
     raws.push(operation)?;
@@ -254,15 +255,15 @@ impl RawOperation {
     pub fn with_text(
         alloc: Global,
         operation: Operation,
-        text: RawValue,
+        raw: RawValue,
     ) -> Result<Option<RawOperation>, AllocError>
         ensures operation { IfOk result (λ o. IfSome o (λ made. made.operation ≡ operation)) }
-        ensures text { IfOk result (λ o. IfSome o (λ made. made.text ≡ Some text)) }
+        ensures text { IfOk result (λ o. IfSome o (λ made. made.text ≡ Some raw)) }
     {
-        if !fits(alloc, &operation, &text)? {
+        if !fits(alloc, &operation, &raw)? {
             return Ok(None);
         }
-        let text = Some(text);
+        let text = Some(raw);
         Ok(Some(RawOperation { operation, text }))
     }
 }
@@ -293,12 +294,5 @@ fn is_text_of(alloc: Global, raw: &RawValue, value: &Value) -> Result<bool, Allo
     let Some(other) = RawValue::from_value(alloc, &again)? else {
         return Ok(false);
     };
-    Ok(are_equal(printed.text.flat.as_str(), other.text.flat.as_str()))
-}
-
-/// Returns whether the texts are equal.
-fn are_equal(text: &str, other: &str) -> bool
-    ensures { IsTrue result → text.now ≡ other.now }
-{
-    text == other
+    Ok(is_text(printed.text.flat.as_str(), other.text.flat.as_str()))
 }

@@ -35,8 +35,8 @@ pub fn cut_children(
     ensures bytes { IfOk result (λ new. IfSome new (λ s.
         CutsChild site.now.text.now (string_bytes s) (tokens site.now.pointer) token.now)) }
 {
-    let place = site.place.container;
-    let container = slice(site.text, place.from, place.to);
+    let span = site.place.container;
+    let container = slice(site.text, span.from, span.to);
     if container.starts_with('{') {
         cut_members(alloc, buffers, site, token)
     } else {
@@ -60,7 +60,7 @@ fn cut_members(
     let Some((position, above)) = site.place.positions.split_last() else {
         return Ok(None);
     };
-    let Some(last) = site.place.same.last() else {
+    let Some(last) = site.place.duplicates.last() else {
         return Ok(None);
     };
     let selector = selector_of(alloc, token)?;
@@ -162,7 +162,7 @@ fn cut_in_turn(
     ensures { IfOk result (λ new. IfSome new (λ s. (mids : List (List ℕ))
         × CutsInTurn key.now (string_bytes text) mids (string_bytes s))) }
 {
-    let Some((_, earlier)) = site.place.same.split_last() else {
+    let Some((_, earlier)) = site.place.duplicates.split_last() else {
         return Ok(None);
     };
     let mut container = shortened(site.place.container, site.text, text.as_str());
@@ -223,7 +223,7 @@ fn cut_child(
         return Ok(None);
     };
     let extent = within(*extent, span.from);
-    if !is_one_child(buffers, cut.was, extent, removed.key, removed.value)? {
+    if !is_one_child(buffers, cut.middle, extent, removed.key, removed.value)? {
         return Ok(None);
     }
     Ok(Some(splice(alloc, &cut, "")?))

@@ -5,7 +5,7 @@ ghost use Rattle.serde_json.specs.Read.{read};
 ghost use Rattle.serde_json.specs.View.{view};
 ghost use Rattle.jsonptr.specs.Pointer.{tokens};
 ghost use Rattle.jsonptr_edit_in_text.specs.Bytes.{IsScalar};
-ghost use Rattle.jsonptr_edit_in_text.specs.PrivateReaching.{ReachedInText, Trades, Becomes, ScalarBecomes, ReplacesByText, ReplacesScalarByText};
+ghost use Rattle.jsonptr_edit_in_text.specs.PrivateReaching.{ReachedInText, ReplacesCut, Becomes, ScalarBecomes, ReplacesByText, ReplacesScalarByText};
 
 use crate::edit::{EditAtPointer, edit_at};
 use crate::place::Site;
@@ -73,7 +73,7 @@ pub fn replace(
     let Some(cut) = cut_at(site.text, site.place.value.from, site.place.value.to) else {
         return Ok(None);
     };
-    trade(alloc, buffers, &cut, site, printed)
+    replace_cut(alloc, buffers, &cut, site, printed)
 }
 
 /// Replaces the scalar at the site. Returns `None` if that is not possible.
@@ -95,14 +95,14 @@ pub fn replace_scalar(
     let Some(cut) = cut_at(site.text, site.place.value.from, site.place.value.to) else {
         return Ok(None);
     };
-    if !is_scalar_text(alloc, buffers, cut.was)? {
+    if !is_scalar_text(alloc, buffers, cut.middle)? {
         return Ok(None);
     }
-    trade(alloc, buffers, &cut, site, printed)
+    replace_cut(alloc, buffers, &cut, site, printed)
 }
 
 /// Replaces the value at the site, which was cut out.
-fn trade(
+fn replace_cut(
     alloc: Global,
     buffers: &mut Buffers,
     cut: &Cut<'_>,
@@ -111,18 +111,18 @@ fn trade(
 ) -> Result<Option<String>, AllocError>
     ensures reached { IfOk result (λ new. IfSome new (λ s. ReachedInText cut.now.text.now
         (string_bytes s) (tokens site.now.pointer)
-        (Trades cut.now.was.now (string_bytes printed.now.flat)))) }
+        (ReplacesCut cut.now.middle.now (string_bytes printed.now.flat)))) }
     ensures bytes { IfOk result (λ new. IfSome new (λ s. ReplacesByText cut.now.text.now
         (string_bytes s) (tokens site.now.pointer) (string_bytes printed.now.flat))) }
-    ensures scalar { (d : Data) → read cut.now.was.now ≡ Some d → IsScalar d → IfOk result
+    ensures scalar { (d : Data) → read cut.now.middle.now ≡ Some d → IsScalar d → IfOk result
         (λ new. IfSome new (λ s. ReplacesScalarByText cut.now.text.now
         (string_bytes s) (tokens site.now.pointer) (string_bytes printed.now.flat))) }
 {
-    if !is_trimmed(cut.was) {
+    if !is_trimmed(cut.middle) {
         return Ok(None);
     }
     let edit = Edit::Replace {
-        old: String::from_str(alloc, cut.was)?,
+        old: String::from_str(alloc, cut.middle)?,
         new: printed.flat.clone()?,
     };
     let made = replacement(alloc, cut.text, site.place, printed)?;

@@ -16,7 +16,7 @@ use Rattle.jsonptr_in_toml.specs.InToml.{ReadsAsToml, IsDeep, HasDeepValues, Ass
 use Rattle.jsonptr_in_toml.specs.declared.error.EditTomlError.{EditTomlError}
 use Rattle.jsonptr_in_toml.specs.declared.error.EditTomlError.TheVariants.{NotToml, DocumentTooDeep, Refused, TooDeep, NoText, Memory}
 use Rattle.std.specs.declared.convert.Infallible.{Infallible}
-use Rattle.jsonptr_edit_in_toml.specs.Failing.{AssignsInOrder, DeletesInOrder, IsAssignInTomlError, IsDeleteInTomlError, IsOutOfMemory, AreOneError}
+use Rattle.jsonptr_edit_in_toml.specs.Failing.{AssignsInOrder, DeletesInOrder, IsAssignInTomlError, IsDeleteInTomlError, IsTomlOutOfMemory, AreOneError}
 use Rattle.jsonptr_edit_in_toml.specs.EditInToml.{DeletesInToml}
 
 -- what the law of assigning says
@@ -199,7 +199,7 @@ one_delete_error text ts (Memory e) f h k = inl tt
 
 -- ---- nothing to delete
 
-pub lacking_error : (text : Text) (ts : List Text) (e : EditTomlError Infallible) → LacksInToml text ts → IsDeleteInTomlError text ts e → IsOutOfMemory e
+pub lacking_error : (text : Text) (ts : List Text) (e : EditTomlError Infallible) → LacksInToml text ts → IsDeleteInTomlError text ts e → IsTomlOutOfMemory e
 lacking_error text ts NotToml l h = absurd (not_toml_read text l.0 h l.1)
 lacking_error text ts DocumentTooDeep l h = absurd (deep_read text l.0 h l.1)
 lacking_error text ts (Refused f) l h = absurd h

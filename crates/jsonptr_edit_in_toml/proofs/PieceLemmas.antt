@@ -12,37 +12,37 @@ pub empties_then : (ts front : List Text) (x : Text) (e : Data) (t piece : Text)
 empties_then ts front x e t piece (Ok is) eq empty same h = λ holds. (front, x, eq, (e, empty, subst (λ (p : Text). IsAlone front e p) same (h holds)))
 empties_then ts front x e t piece (Err f) eq empty same h = tt
 
-pub spliced : (before was after piece old new : Text) → old ≡ before ++ (was ++ after) → new ≡ before ++ (piece ++ after) → Splices old new was piece
-spliced before was after piece old new cut made = record { before = before; after = after; old_is = cut; new_is = made }
+pub spliced : (before middle after piece old new : Text) → old ≡ before ++ (middle ++ after) → new ≡ before ++ (piece ++ after) → Splices old new middle piece
+spliced before middle after piece old new cut made = record { before = before; after = after; old_is = cut; new_is = made }
 
-pub deletes_and_leaves : (old whole new was t piece : Text) (ts : List Text) (v d : Data) → whole ≡ old → t ≡ piece → Splices whole new was t → IsOneTomlChild ts v was → Empties ts piece → ReadsAsToml old d → FindsValue d ts v → DeletesTomlBytes old ts new
-deletes_and_leaves old whole new was t piece ts v d same value splices child left reads found =
+pub deletes_and_leaves : (old whole new middle t piece : Text) (ts : List Text) (v d : Data) → whole ≡ old → t ≡ piece → Splices whole new middle t → IsOneTomlChild ts v middle → Empties ts piece → ReadsAsToml old d → FindsValue d ts v → DeletesTomlBytes old ts new
+deletes_and_leaves old whole new middle t piece ts v d same value splices child left reads found =
     record {
-      was = was;
+      middle = middle;
       piece = t;
       v = v;
-      splices = subst (λ (o : Text). Splices o new was t) same splices;
+      splices = subst (λ (o : Text). Splices o new middle t) same splices;
       found = (d, reads, found);
       whole = child;
       left = inr (subst (λ (p : Text). Empties ts p) (sym value) left);
     }
 
-pub replaces_alone : (old whole new before was after t piece : Text) (ts : List Text) (w v d : Data) → whole ≡ old → whole ≡ before ++ (was ++ after) → t ≡ piece → new ≡ before ++ (t ++ after) → IsAlone ts w was → ReadsAsToml old d → FindsValue d ts w → IsAlone ts v piece → AssignsTomlBytes old ts v new
-replaces_alone old whole new before was after t piece ts w v d same cut value made alone reads found given =
+pub replaces_alone : (old whole new before middle after t piece : Text) (ts : List Text) (w v d : Data) → whole ≡ old → whole ≡ before ++ (middle ++ after) → t ≡ piece → new ≡ before ++ (t ++ after) → IsAlone ts w middle → ReadsAsToml old d → FindsValue d ts w → IsAlone ts v piece → AssignsTomlBytes old ts v new
+replaces_alone old whole new before middle after t piece ts w v d same cut value made alone reads found given =
     record {
-      was = was;
+      middle = middle;
       piece = piece;
-      splices = spliced before was after piece old new (sym same ∙ cut) (subst (λ (p : Text). new ≡ before ++ (p ++ after)) value made);
+      splices = spliced before middle after piece old new (sym same ∙ cut) (subst (λ (p : Text). new ≡ before ++ (p ++ after)) value made);
       made = inl (w, (d, reads, found), alone, given);
     }
 
-pub deletes_whole : (old whole new before was after : Text) (ts : List Text) (v d : Data) → whole ≡ old → whole ≡ before ++ (was ++ after) → new ≡ before ++ ([] ++ after) → IsOneTomlChild ts v was → ReadsAsToml old d → FindsValue d ts v → DeletesTomlBytes old ts new
-deletes_whole old whole new before was after ts v d same cut made child reads found =
+pub deletes_whole : (old whole new before middle after : Text) (ts : List Text) (v d : Data) → whole ≡ old → whole ≡ before ++ (middle ++ after) → new ≡ before ++ ([] ++ after) → IsOneTomlChild ts v middle → ReadsAsToml old d → FindsValue d ts v → DeletesTomlBytes old ts new
+deletes_whole old whole new before middle after ts v d same cut made child reads found =
     record {
-      was = was;
+      middle = middle;
       piece = [];
       v = v;
-      splices = spliced before was after [] old new (sym same ∙ cut) made;
+      splices = spliced before middle after [] old new (sym same ∙ cut) made;
       found = (d, reads, found);
       whole = child;
       left = inl refl;

@@ -50,23 +50,23 @@ pub record IsOneTomlChild (ts : List Text) (v : Data) (t : Text) : Type 0 where
   pub whole : IsAlone ts v child
   pub beside : HaveOneTomlComma lead trail
 
--- `ReplacesToml old ts v was piece`: `was` is the text of exactly the value that the tokens identify, and `piece` of
--- exactly `v`
+-- `ReplacesToml old ts v middle piece`: `middle` is the text of exactly the value that the tokens identify, and
+-- `piece` of exactly `v`
 abbrev pub ReplacesToml : Text → List Text → Data → Text → Text → Type 0
-ReplacesToml old ts v was piece = (w : Data) × FindsInToml old ts w × IsAlone ts w was × IsAlone ts v piece
+ReplacesToml old ts v middle piece = (w : Data) × FindsInToml old ts w × IsAlone ts w middle × IsAlone ts v piece
 
--- `AddsTomlChild ts v was piece`: `piece` is one member or element with the value `v`. `was` is a filler, mostly empty, which
--- stays in it
+-- `AddsTomlChild ts v middle piece`: `piece` is one member or element with the value `v`. `middle` is a filler, mostly
+-- empty, which stays in it
 abbrev pub AddsTomlChild : List Text → Data → Text → Text → Type 0
-AddsTomlChild ts v was piece = IsOneTomlChild ts v piece × ((lead rest : Text) × (piece ≡ lead ++ (was ++ rest))) × IsFiller was
+AddsTomlChild ts v middle piece = IsOneTomlChild ts v piece × ((lead rest : Text) × (piece ≡ lead ++ (middle ++ rest))) × IsFiller middle
 
 -- `AssignsTomlBytes old ts v new`: the text of the value that the tokens identify is replaced by a text of `v`, or a text
 -- of one member or element with the value `v` is added, and nothing is taken away
 pub record AssignsTomlBytes (old : Text) (ts : List Text) (v : Data) (new : Text) : Type 0 where
-  pub was : Text
+  pub middle : Text
   pub piece : Text
-  pub splices : Splices old new was piece
-  pub made : ReplacesToml old ts v was piece ⊎ AddsTomlChild ts v was piece
+  pub splices : Splices old new middle piece
+  pub made : ReplacesToml old ts v middle piece ⊎ AddsTomlChild ts v middle piece
 
 -- `IsEmptyToml v`: `v` is a table without members, or an array without elements
 abbrev pub IsEmptyToml : Data → Type 0
@@ -81,10 +81,10 @@ Empties ts piece =
 -- `DeletesTomlBytes old ts new`: the text of one member or element is cut out, with the value that the tokens identify. If
 -- nothing else mentions the table or array that it was in, that is left, empty
 pub record DeletesTomlBytes (old : Text) (ts : List Text) (new : Text) : Type 0 where
-  pub was : Text
+  pub middle : Text
   pub piece : Text
   pub v : Data
-  pub splices : Splices old new was piece
+  pub splices : Splices old new middle piece
   pub found : FindsInToml old ts v
-  pub whole : IsOneTomlChild ts v was
+  pub whole : IsOneTomlChild ts v middle
   pub left : (piece ≡ []) ⊎ Empties ts piece

@@ -24,7 +24,7 @@ DeletesInToml old ts new =
     (d d2 : Data) × ReadsAsToml old d × ReadsAsToml new d2
     × ((v : Data) × FindsValue d ts v) × Deletes (nodes d) ts (nodes (table no_members)) (nodes d2)
 
--- `IsPrinted P e`: if `e` was printed anew, its text meets P
+-- `IsPrinted P e`: if `e` was printed anew, its text meets `P`
 abbrev pub IsPrinted : (Text → Type 0) → Edited → Type 0
 IsPrinted P (InPlace s) = ⊤
 IsPrinted P (Rewritten s) = P (string_bytes s)

@@ -22,7 +22,8 @@ AssignsInOrder text ts v d2 = AssignsTo text ts v d2 × (HasSortedKeys v → Has
 abbrev pub DeletesInOrder : Text → List Text → Data → Type 0
 DeletesInOrder text ts d2 = DeletesTo text ts d2 × HasSortedKeys d2
 
--- `IsAssignInTomlError text ts v e`: `e` is why `v` is not assigned at the tokens in the text, if it is not for memory
+-- `IsAssignInTomlError text ts v e`: `e` is why `v` is not assigned at the tokens in the text, unless an allocation
+-- failed
 abbrev pub IsAssignInTomlError : Text → List Text → Data → EditTomlError AssignError → Type 0
 IsAssignInTomlError text ts v NotToml = parse_document text ≡ None
 IsAssignInTomlError text ts v DocumentTooDeep = IsDeep text
@@ -35,7 +36,7 @@ IsAssignInTomlError text ts v NoText =
     (length ts ≤ suc max_depth) × ((d2 : Data) × AssignsInOrder text ts v d2 × IsPrintTomlError d2 printing.NoText)
 IsAssignInTomlError text ts v (Memory f) = ⊤
 
--- `IsDeleteInTomlError text ts e`: `e` is why nothing is deleted in the text, if it is not for memory
+-- `IsDeleteInTomlError text ts e`: `e` is why nothing is deleted in the text, unless an allocation failed
 abbrev pub IsDeleteInTomlError : Text → List Text → EditTomlError Infallible → Type 0
 IsDeleteInTomlError text ts NotToml = parse_document text ≡ None
 IsDeleteInTomlError text ts DocumentTooDeep = IsDeep text
@@ -44,11 +45,11 @@ IsDeleteInTomlError text ts TooDeep = (d2 : Data) × DeletesInOrder text ts d2 �
 IsDeleteInTomlError text ts NoText = (d2 : Data) × DeletesInOrder text ts d2 × IsPrintTomlError d2 printing.NoText
 IsDeleteInTomlError text ts (Memory f) = ⊤
 
--- `IsOutOfMemory e`: an allocation failed
-abbrev pub IsOutOfMemory : {E : Type 0} → EditTomlError E → Type 0
-IsOutOfMemory (Memory f) = ⊤
-IsOutOfMemory e = ⊥
+-- `IsTomlOutOfMemory e`: an allocation failed
+abbrev pub IsTomlOutOfMemory : {E : Type 0} → EditTomlError E → Type 0
+IsTomlOutOfMemory (Memory f) = ⊤
+IsTomlOutOfMemory e = ⊥
 
 -- `AreOneError e f`: `e` and `f` are equal, or an allocation failed
 abbrev pub AreOneError : {E : Type 0} → EditTomlError E → EditTomlError E → Type 0
-AreOneError e f = IsOutOfMemory e ⊎ (IsOutOfMemory f ⊎ (e ≡ f))
+AreOneError e f = IsTomlOutOfMemory e ⊎ (IsTomlOutOfMemory f ⊎ (e ≡ f))

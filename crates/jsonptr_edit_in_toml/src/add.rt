@@ -23,8 +23,8 @@ use toml_parser::text::byte_at;
 pub fn plan_addition(
     alloc: Global,
     text: &str,
-    pointer: Pointer<'_>,
     document: &Value,
+    pointer: Pointer<'_>,
     value: &Value,
 ) -> Result<Option<AdditionPlan>, AllocError> {
     let outline = outline_of(alloc, text, pointer)?;

@@ -40,7 +40,7 @@ fn is_comma(alloc: Global, text: &str) -> Result<bool, AllocError>
     let Some(cut) = cut_at(text, from, from.saturating_add(1)) else {
         return Ok(false);
     };
-    if cut.was != "," || !is_filler(alloc, cut.before)? {
+    if cut.middle != "," || !is_filler(alloc, cut.before)? {
         return Ok(false);
     }
     is_filler(alloc, cut.after)
@@ -135,7 +135,7 @@ pub fn is_one_toml_child(
     let Some(cut) = cut_at(text, child.span.from, child.span.to) else {
         return Ok(false);
     };
-    if !is_alone(alloc, cut.was, pointer, &child.keys, value)? {
+    if !is_alone(alloc, cut.middle, pointer, &child.keys, value)? {
         return Ok(false);
     }
     have_one_toml_comma(alloc, cut.before, cut.after)

@@ -32,7 +32,8 @@ use toml::Value;
 /// One piece of the text changes: the text of a value is replaced, or a member or an element is put in
 /// as its siblings are. All other bytes stay. If that is not possible, the document is printed anew.
 ///
-/// Reads the old and the new text once each, and allocates for both documents.
+/// Reads the old and the new text once each, scans the old one once more, and allocates for both
+/// documents.
 ///
 /// # Errors
 ///
@@ -72,7 +73,7 @@ pub fn assign_in_toml(
     if has_too_many_tokens(pointer) {
         return Err(EditTomlError::TooDeep);
     }
-    let candidate = candidate_of(alloc, text, pointer, &document, &value)?;
+    let candidate = candidate_of(alloc, text, &document, pointer, &value)?;
     match document.assign(alloc, pointer, value) {
         Ok(_) => Ok(choose(alloc, candidate, document)?),
         Err(Fault::Refused(error)) => Err(EditTomlError::Refused(error)),
@@ -92,8 +93,8 @@ pub fn choose(
     document: Value,
 ) -> Result<Edited, PrintTomlError>
     ensures document { IfOk result (λ e. ReadsAsToml (edited_text e) (view document)) }
-    ensures place { IfOk result (KeepsBytes (λ s. IfSome candidate (λ c. s ≡ string_bytes c))) }
-    ensures there { IfOk result (KeepsBytes (λ s. IsSome candidate)) }
+    ensures in_place { IfOk result (KeepsBytes (λ s. IfSome candidate (λ c. s ≡ string_bytes c))) }
+    ensures has_candidate { IfOk result (KeepsBytes (λ s. IsSome candidate)) }
     ensures printed { IfOk result (IsPrinted (PrintsAs (view document))) }
     ensures refused { IfErr result (IsPrintTomlError (view document)) }
 {
@@ -113,8 +114,8 @@ pub fn choose(
 fn candidate_of(
     alloc: Global,
     text: &str,
-    pointer: Pointer<'_>,
     document: &Value,
+    pointer: Pointer<'_>,
     value: &Value,
 ) -> Result<Option<String>, AllocError>
     ensures { ReadsAsToml text.now (view document.now) → IfOk result (λ new. IfSome new
@@ -134,7 +135,7 @@ fn candidate_of(
             }
             None => Ok(None),
         },
-        Err(Fault::Refused(_)) => match plan_addition(alloc, text, pointer, document, value)? {
+        Err(Fault::Refused(_)) => match plan_addition(alloc, text, document, pointer, value)? {
             Some(plan) => added(alloc, text, pointer, value, &plan),
             None => Ok(None),
         },
@@ -158,7 +159,7 @@ fn replaced(
     let Some(cut) = cut_at(text, plan.span.from, plan.span.to) else {
         return Ok(None);
     };
-    if !is_alone(alloc, cut.was, pointer, &plan.keys, found)? {
+    if !is_alone(alloc, cut.middle, pointer, &plan.keys, found)? {
         return Ok(None);
     }
     Ok(Some(splice(alloc, &cut, plan.piece.as_str())?))
@@ -178,23 +179,23 @@ fn added(
     let Some(cut) = cut_at(text, plan.span.from, plan.span.to) else {
         return Ok(None);
     };
-    let piece = joined(alloc, plan.lead.as_str(), cut.was, plan.rest.as_str())?;
+    let piece = joined(alloc, plan.lead.as_str(), cut.middle, plan.rest.as_str())?;
     if !is_one_toml_child(alloc, piece.as_str(), pointer, &plan.child, value)? {
         return Ok(None);
     }
-    if !is_filler(alloc, cut.was)? {
+    if !is_filler(alloc, cut.middle)? {
         return Ok(None);
     }
     Ok(Some(splice(alloc, &cut, piece.as_str())?))
 }
 
 /// Returns the three texts, one after the other.
-fn joined(alloc: Global, lead: &str, was: &str, rest: &str) -> Result<String, AllocError>
-    ensures { IfOk result (λ s. string_bytes s ≡ lead.now ++ (was.now ++ rest.now)) }
+fn joined(alloc: Global, lead: &str, middle: &str, rest: &str) -> Result<String, AllocError>
+    ensures { IfOk result (λ s. string_bytes s ≡ lead.now ++ (middle.now ++ rest.now)) }
 {
     let mut piece = String::new(alloc);
     piece.push_str(lead)?;
-    piece.push_str(was)?;
+    piece.push_str(middle)?;
     piece.push_str(rest)?;
     Ok(piece)
 }

@@ -31,7 +31,8 @@ use toml::Value;
 /// A key goes with its line and the comment on it, a table with its header and its lines, and an
 /// element with its comma. All other bytes stay. If that is not possible, the document is printed anew.
 ///
-/// Reads the old and the new text once each, and allocates for both documents.
+/// Reads the old and the new text once each, scans the old one once more, and allocates for both
+/// documents.
 ///
 /// # Errors
 ///
@@ -63,7 +64,7 @@ pub fn delete_in_toml(
     ensures refused { IfErr result (IsDeleteInTomlError text.now (tokens pointer.entry)) }
 {
     let mut document = read_toml(alloc, text)?;
-    let candidate = candidate_of(alloc, text, pointer, &document)?;
+    let candidate = candidate_of(alloc, text, &document, pointer)?;
     match document.delete(alloc, pointer)? {
         Some(_) => Ok(Some(choose(alloc, candidate, document)?)),
         None => Ok(None),
@@ -74,8 +75,8 @@ pub fn delete_in_toml(
 fn candidate_of(
     alloc: Global,
     text: &str,
-    pointer: Pointer<'_>,
     document: &Value,
+    pointer: Pointer<'_>,
 ) -> Result<Option<String>, AllocError>
     ensures { ReadsAsToml text.now (view document.now) → IfOk result (λ new. IfSome new
         (λ s. DeletesTomlBytes text.now (tokens pointer.entry) (string_bytes s))) }
@@ -105,7 +106,7 @@ fn removed(
     let Some(cut) = cut_at(text, plan.span.from, plan.span.to) else {
         return Ok(None);
     };
-    if !is_one_toml_child(alloc, cut.was, pointer, &plan.child, found)? {
+    if !is_one_toml_child(alloc, cut.middle, pointer, &plan.child, found)? {
         return Ok(None);
     }
     let Some(left) = &plan.left else {

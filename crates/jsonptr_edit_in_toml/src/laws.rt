@@ -8,7 +8,7 @@ ghost use Rattle.jsonptr.specs.declared.assign.Error.{Error};
 ghost use Rattle.jsonptr_in_toml.specs.declared.error.EditTomlError.{EditTomlError};
 ghost use Rattle.jsonptr_in_toml.specs.InToml.{LacksInToml};
 ghost use Rattle.jsonptr_edit_in_toml.specs.EditInToml.{DeletesInToml};
-ghost use Rattle.jsonptr_edit_in_toml.specs.Failing.{IsAssignInTomlError, IsDeleteInTomlError, IsOutOfMemory, AreOneError};
+ghost use Rattle.jsonptr_edit_in_toml.specs.Failing.{IsAssignInTomlError, IsDeleteInTomlError, IsTomlOutOfMemory, AreOneError};
 
 use jsonptr_laws::assign::assign_law;
 
@@ -26,7 +26,7 @@ pub fn one_error_law()
     ensures delete { (text : Text) (ts : List Text) (e f : EditTomlError Infallible)
         → IsDeleteInTomlError text ts e → IsDeleteInTomlError text ts f → AreOneError e f }
     ensures lacking { (text : Text) (ts : List Text) (e : EditTomlError Infallible)
-        → LacksInToml text ts → IsDeleteInTomlError text ts e → IsOutOfMemory e }
+        → LacksInToml text ts → IsDeleteInTomlError text ts e → IsTomlOutOfMemory e }
     ensures not_both { (text new : Text) (ts : List Text)
         → LacksInToml text ts → DeletesInToml text ts new → ⊥ }
 {

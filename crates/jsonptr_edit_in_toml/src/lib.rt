@@ -11,7 +11,7 @@
 //! - [`assign_in_toml_in_place`] and [`delete_in_toml_in_place`] do the same, in place or not at all.
 //!
 //! Each call makes two promises. *Meaning*: the new text reads as the document that the call on
-//! documents makes of the document that the old text reads as. *Bytes*: one piece of the text
+//! documents makes of the document that the old text reads as. *Bytes*, in place: one piece of the text
 //! changes. What is replaced, put in or cut out reads, alone, as exactly the value.
 //!
 //! In the examples `rt` is the runtime that `main` and each test receive, and `alloc` is

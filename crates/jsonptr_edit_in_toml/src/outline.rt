@@ -33,6 +33,15 @@ pub struct Trace {
     pub shared: usize,
 }
 
+/// Some items, one after another.
+#[derive(Clone, Copy, Debug)]
+pub struct ItemRun {
+    /// The number of the first one.
+    pub first: usize,
+    /// The number of the last one.
+    pub last: usize,
+}
+
 /// The items of a text, and how each lies beside the tokens.
 #[derive(Debug, Drop)]
 pub struct Outline {
@@ -148,18 +157,18 @@ impl Outline {
 
     /// Returns the numbers of the first and the last item in the value that the tokens lead to, if there
     /// are such items and no others are between them.
-    pub fn run(&self) -> Option<Span> {
-        let from = self.first_with(Role::Inside)?;
-        let mut to = from;
+    pub fn run(&self) -> Option<ItemRun> {
+        let first = self.first_with(Role::Inside)?;
+        let mut last = first;
         for (index, trace) in self.traces.iter().enumerate() {
             if trace.role == Role::Inside {
-                if index > to.saturating_add(1) {
+                if index > last.saturating_add(1) {
                     return None;
                 }
-                to = index;
+                last = index;
             }
         }
-        Some(Span { from, to })
+        Some(ItemRun { first, last })
     }
 
     /// Returns the last item that leads along at least so many tokens.
@@ -168,9 +177,9 @@ impl Outline {
     }
 
     /// Returns whether an item that is not between the two numbers leads along at least so many tokens.
-    pub fn is_mentioned(&self, count: usize, run: Span) -> bool {
+    pub fn is_mentioned(&self, count: usize, run: ItemRun) -> bool {
         self.traces.iter().enumerate().any(|(index, trace)| {
-            trace.shared >= count && (index < run.from || index > run.to)
+            trace.shared >= count && (index < run.first || index > run.last)
         })
     }
 

@@ -2,7 +2,7 @@
 use crate::inline::{InlineChild, InlineContainer, container_of};
 use crate::items::ItemKind;
 use crate::keys::{push_keys, push_pointer};
-use crate::outline::{Outline, Role, indent_of, outline_of};
+use crate::outline::{ItemRun, Outline, Role, indent_of, outline_of};
 use crate::plan::{EmptiedParent, Keys, RemovalPlan, TomlChild};
 use crate::span::{
     blank_lines_above, comments_above, ends_line, line_start, newline_of, next_line,
@@ -63,9 +63,9 @@ fn remove_pair(
     };
     let from = outline.table_of(index);
     let keys = outline.last_keys(alloc, from)?;
-    let run = Span {
-        from: index,
-        to: index,
+    let run = ItemRun {
+        first: index,
+        last: index,
     };
     let span = Span {
         from: item.line,
@@ -145,13 +145,14 @@ fn remove_run(
     alloc: Global,
     text: &str,
     outline: &Outline,
-    run: Span,
+    run: ItemRun,
 ) -> Result<Option<RemovalPlan>, AllocError> {
-    let (Some(first), Some(last)) = (outline.items.get(run.from), outline.items.get(run.to)) else {
+    let (Some(first), Some(last)) = (outline.items.get(run.first), outline.items.get(run.last))
+    else {
         return Ok(None);
     };
     let above = outline.count().saturating_sub(1);
-    let from = outline.table_of(run.from);
+    let from = outline.table_of(run.first);
     let is_pair = first.kind == ItemKind::Pair;
     let keys = if is_pair {
         outline.last_keys(alloc, from)?
@@ -168,9 +169,9 @@ fn remove_run(
         } else {
             outline.table_above(above)
         };
-        left_pair(alloc, text, outline, table, run.from)?
+        left_pair(alloc, text, outline, table, run.first)?
     } else {
-        left_header(alloc, text, outline, run.from)?
+        left_header(alloc, text, outline, run.first)?
     };
     let span = Span {
         from: first.line,

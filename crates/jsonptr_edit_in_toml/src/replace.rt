@@ -3,7 +3,7 @@ use crate::alone::{empty_table, holds};
 use crate::inline::container_of;
 use crate::items::{ItemKind, TomlItem};
 use crate::keys::{push_keys, push_pointer};
-use crate::outline::{Outline, Role, indent_of, outline_of};
+use crate::outline::{ItemRun, Outline, Role, indent_of, outline_of};
 use crate::piece::{has_headers, section_text};
 use crate::plan::{Keys, ReplacementPlan};
 use crate::span::{newline_of, slice};
@@ -67,10 +67,11 @@ fn replace_run(
     alloc: Global,
     text: &str,
     outline: &Outline,
-    run: Span,
+    run: ItemRun,
     value: &Value,
 ) -> Result<Option<ReplacementPlan>, AllocError> {
-    let (Some(first), Some(last)) = (outline.items.get(run.from), outline.items.get(run.to)) else {
+    let (Some(first), Some(last)) = (outline.items.get(run.first), outline.items.get(run.last))
+    else {
         return Ok(None);
     };
     let span = Span {
@@ -79,14 +80,14 @@ fn replace_run(
     };
     let is_pair = first.kind == ItemKind::Pair;
     let keys = if is_pair {
-        outline.last_keys(alloc, outline.table_of(run.from))?
+        outline.last_keys(alloc, outline.table_of(run.first))?
     } else {
         outline.header_keys(alloc, outline.count())?
     };
     let Some(written) = (if !is_pair && needs_header(outline, value) {
         section_of(alloc, text, outline, first, value)?
     } else {
-        Some(pair_of(alloc, text, outline, run.from, value)?)
+        Some(pair_of(alloc, text, outline, run.first, value)?)
     }) else {
         return Ok(None);
     };

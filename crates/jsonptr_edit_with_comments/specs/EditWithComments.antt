@@ -26,15 +26,15 @@ EditsAs P text made = (old new : Text) × IsWithoutComments text old × IsLaidOu
 abbrev pub Lacks : Text → List Text → Type 0
 Lacks text tokens = (old : Text) × IsWithoutComments text old × LacksInText old tokens
 
--- `IsReadPastError text e`: `e` is why the text has no text without comments, if it is not for memory
+-- `IsReadPastError text e`: `e` is why the text has no text without comments, unless an allocation failed
 abbrev pub IsReadPastError : {E : Type 0} → Text → WithCommentsError E → Type 0
 IsReadPastError text (Comment e) = IsUnterminated text e.offset
 IsReadPastError text (Memory e) = ⊤
 IsReadPastError text e = ⊥
 
--- `IsWithCommentsError P Q text e`: `e` is why an edit of the text is not made, if it is not for memory. A block comment is not
--- closed; or `P` relates the text without comments and some new text, so the edit is possible; or the edit of the text without
--- comments fails with an error that meets `Q`
+-- `IsWithCommentsError P Q text e`: `e` is why an edit of the text is not made, unless an allocation failed. A block
+-- comment is not closed; or `P` relates the text without comments and some new text, so the edit is possible; or the
+-- edit of the text without comments fails with an error that meets `Q`
 abbrev pub IsWithCommentsError : {E : Type 0} → (Text → Text → Type 0) → (Text → EditError E → Type 0) → Text → WithCommentsError E → Type 0
 IsWithCommentsError P Q text (Comment e) = IsUnterminated text e.offset
 IsWithCommentsError P Q text NotJson = (old : Text) × IsWithoutComments text old × Q old edit.NotJson
@@ -43,8 +43,8 @@ IsWithCommentsError P Q text TooDeep = (old : Text) × IsWithoutComments text ol
 IsWithCommentsError P Q text NotInPlace = (old new : Text) × IsWithoutComments text old × P old new
 IsWithCommentsError P Q text (Memory e) = ⊤
 
--- `IsDeleteError text tokens e`: `e` is why deleting at the tokens in the text fails, if it is not for memory. A block comment is
--- not closed; or the text without comments does not read as a document; or deleting in it is possible
+-- `IsDeleteError text tokens e`: `e` is why deleting at the tokens in the text fails, unless an allocation failed. A
+-- block comment is not closed; or the text without comments does not read as a document; or deleting in it is possible
 abbrev pub IsDeleteError : {E : Type 0} → Text → List Text → WithCommentsError E → Type 0
 IsDeleteError text tokens (Comment e) = IsUnterminated text e.offset
 IsDeleteError text tokens NotJson = (old : Text) × IsWithoutComments text old × (read old ≡ None)

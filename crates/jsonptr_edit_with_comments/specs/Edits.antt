@@ -15,11 +15,11 @@ IsLaidOut new made = (json : Text) × IsWithoutComments made json × (tokens jso
 abbrev pub IsCommaOrNone : Text → Type 0
 IsCommaOrNone t = (t ≡ []) ⊎ (t ≡ codes ",")
 
--- `IsSmall was`: the text `was` is white space; or, apart from comments, it is one child (or a value), with at most one comma and
--- white space beside it
+-- `IsSmall t`: the text `t` is white space; or, apart from comments, it is one child (or a value), with at most one
+-- comma and white space beside it
 abbrev pub IsSmall : Text → Type 0
-IsSmall was =
-    IsBlank was ⊎ ((json : Text) × (key : Option Text) × (e : Data) × IsWithoutComments was json × IsOneChild key e json)
+IsSmall t =
+    IsBlank t ⊎ ((json : Text) × (key : Option Text) × (e : Data) × IsWithoutComments t json × IsOneChild key e json)
 
 -- `IsOneEdit text made`: the text `made` is `text` with one piece replaced, and with at most one comma put in or taken out
 -- before it
@@ -28,11 +28,11 @@ pub record IsOneEdit (text made : Text) : Type 0 where
   pub comma : Text
   pub added : Text
   pub between : Text
-  pub was : Text
+  pub middle : Text
   pub piece : Text
   pub after : Text
-  pub text_is : text ≡ before ++ (comma ++ (between ++ (was ++ after)))
+  pub text_is : text ≡ before ++ (comma ++ (between ++ (middle ++ after)))
   pub made_is : made ≡ before ++ (added ++ (between ++ (piece ++ after)))
   pub taken : IsCommaOrNone comma
   pub put : IsCommaOrNone added
-  pub small : IsSmall was
+  pub small : IsSmall middle

@@ -68,7 +68,7 @@ struct Location {
     /// A comma that comes before it.
     comma: Comma,
     /// What is replaced.
-    was: Span,
+    replaced: Span,
 }
 
 /// Returns the change that adds the child at the position, or `None` if there is no such child.
@@ -153,7 +153,7 @@ fn append(
         None => if is_over_lines && gap.tail > from {
             let location = Location {
                 comma: Comma::Put(from),
-                was: empty(gap.tail),
+                replaced: empty(gap.tail),
             };
             put(
                 alloc,
@@ -261,7 +261,7 @@ fn at(offset: usize) -> Location {
 fn replacing(from: usize, to: usize) -> Location {
     Location {
         comma: Comma::Same,
-        was: Span { from, to },
+        replaced: Span { from, to },
     }
 }
 
@@ -273,11 +273,11 @@ fn put(alloc: Global, location: Location, parts: &[&str]) -> Result<Change, Allo
     }
     Ok(Change {
         comma: location.comma,
-        was: location.was,
+        replaced: location.replaced,
         piece,
         child: Extent {
-            child: location.was,
-            value: location.was.from,
+            child: location.replaced,
+            value: location.replaced.from,
         },
         key: None,
     })

@@ -119,7 +119,7 @@ pub fn apply_raw_with_comments(
 }
 
 /// Applies the operations in order, as [`apply_raw_with_comments`] does. Returns `None` for each of its
-/// errors. So one list of operations serves many texts.
+/// errors but a failed allocation. So one list of operations serves many texts.
 ///
 /// # Errors
 ///

@@ -104,21 +104,21 @@ pub fn assign_raw_with_comments(
     buffers: &mut Buffers,
     text: &str,
     pointer: Pointer<'_>,
-    value: &RawValue,
+    raw: &RawValue,
 ) -> Result<String, WithCommentsError<assign::Error>>
     ensures assigned { IfOk result (λ s. Becomes
-        (λ old new. AssignsInText old (tokens pointer.entry) (nodes (value_of_raw value.now)) new) text.now (string_bytes s)) }
+        (λ old new. AssignsInText old (tokens pointer.entry) (nodes (value_of_raw raw.now)) new) text.now (string_bytes s)) }
     ensures bytes { IfOk result (λ s. EditsAs
-        (λ old new. AssignsBytes old (tokens pointer.entry) (value_of_raw value.now) new
-        × Carries (string_bytes value.now.text.flat) new) text.now (string_bytes s)) }
+        (λ old new. AssignsBytes old (tokens pointer.entry) (value_of_raw raw.now) new
+        × Carries (string_bytes raw.now.text.flat) new) text.now (string_bytes s)) }
     ensures pieces { IfOk result (λ s. IsOneEdit text.now (string_bytes s)) }
     ensures refused { IfErr result (IsWithCommentsError
-        (λ old new. AssignsInText old (tokens pointer.entry) (nodes (value_of_raw value.now)) new)
-        (λ old e. IsAssignError old (tokens pointer.entry) (value_of_raw value.now) e) text.now) }
+        (λ old new. AssignsInText old (tokens pointer.entry) (nodes (value_of_raw raw.now)) new)
+        (λ old e. IsAssignError old (tokens pointer.entry) (value_of_raw raw.now) e) text.now) }
 {
     let bare = read_past(alloc, text)?;
     let old = bare.as_str();
-    let new = assign_raw_in_place(alloc, buffers, old, pointer, value)?;
+    let new = assign_raw_in_place(alloc, buffers, old, pointer, raw)?;
     let texts = Texts {
         text,
         old,

@@ -27,7 +27,7 @@ pub struct Change {
     /// A comma that comes or goes before the piece.
     pub comma: Comma,
     /// What is replaced: white space, or one value or child with what is beside it.
-    pub was: Span,
+    pub replaced: Span,
     /// What replaces it.
     pub piece: String,
     /// Where that value or child is in the text.
@@ -42,7 +42,7 @@ struct Cuts<'t> {
     before: &'t str,
     comma: &'t str,
     between: &'t str,
-    was: &'t str,
+    middle: &'t str,
     after: &'t str,
 }
 
@@ -59,14 +59,14 @@ pub fn changed(
 ) -> Result<Option<String>, AllocError>
     ensures { IfOk result (λ made. IfSome made (λ s. IsOneEdit text.now (string_bytes s))) }
 {
-    let (comma, added) = span_of(change.comma, change.was.from);
-    let Some(cuts) = cuts_of(text, comma, change.was) else {
+    let (comma, added) = span_of(change.comma, change.replaced.from);
+    let Some(cuts) = cuts_of(text, comma, change.replaced) else {
         return Ok(None);
     };
     if !is_comma_or_none(cuts.comma) || !is_comma_or_none(added) {
         return Ok(None);
     }
-    if !is_small(alloc, buffers, cuts.was, change)? {
+    if !is_small(alloc, buffers, cuts.middle, change)? {
         return Ok(None);
     }
     Ok(Some(joined(alloc, &cuts, added, change.piece.as_str())?))
@@ -99,18 +99,18 @@ fn span_of(comma: Comma, offset: usize) -> (Span, &'static str) {
 
 /// Cuts the text at the ends of both spans. Returns `None` if these are not in order, or not between
 /// characters.
-fn cuts_of(text: &str, comma: Span, was: Span) -> Option<Cuts<'_>>
-    ensures { IfSome result (λ c. text.now ≡ c.before.now ++ (c.comma.now ++ (c.between.now ++ (c.was.now ++ c.after.now)))) }
+fn cuts_of(text: &str, comma: Span, replaced: Span) -> Option<Cuts<'_>>
+    ensures { IfSome result (λ c. text.now ≡ c.before.now ++ (c.comma.now ++ (c.between.now ++ (c.middle.now ++ c.after.now)))) }
 {
     let (before, rest) = text.split_at_checked(comma.from)?;
     let (comma_text, rest) = rest.split_at_checked(comma.to.checked_sub(comma.from)?)?;
-    let (between, rest) = rest.split_at_checked(was.from.checked_sub(comma.to)?)?;
-    let (was, after) = rest.split_at_checked(was.to.checked_sub(was.from)?)?;
+    let (between, rest) = rest.split_at_checked(replaced.from.checked_sub(comma.to)?)?;
+    let (middle, after) = rest.split_at_checked(replaced.to.checked_sub(replaced.from)?)?;
     Some(Cuts {
         before,
         comma: comma_text,
         between,
-        was,
+        middle,
         after,
     })
 }
@@ -126,22 +126,22 @@ fn is_comma_or_none(text: &str) -> bool
 fn is_small(
     alloc: Global,
     buffers: &mut Buffers,
-    was: &str,
+    middle: &str,
     change: &Change,
 ) -> Result<bool, AllocError>
-    ensures { IfOk result (λ b. IsTrue b → IsSmall was.now) }
+    ensures { IfOk result (λ b. IsTrue b → IsSmall middle.now) }
 {
-    if is_blank(was) {
+    if is_blank(middle) {
         return Ok(true);
     }
     let child = Extent {
         child: Span {
-            from: change.child.child.from.saturating_sub(change.was.from),
-            to: change.child.child.to.saturating_sub(change.was.from),
+            from: change.child.child.from.saturating_sub(change.replaced.from),
+            to: change.child.child.to.saturating_sub(change.replaced.from),
         },
-        value: change.child.value.saturating_sub(change.was.from),
+        value: change.child.value.saturating_sub(change.replaced.from),
     };
-    match without_comments(alloc, was) {
+    match without_comments(alloc, middle) {
         Ok(json) => match &change.key {
             Some(key) => is_one_child(buffers, json.as_str(), child, Some(key.as_str()), None),
             None => is_one_child(buffers, json.as_str(), child, None, None),

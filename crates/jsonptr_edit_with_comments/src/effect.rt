@@ -95,7 +95,7 @@ pub fn effect_of(
     let Some(place) = place_of(alloc, buffers, texts.old, &selectors)? else {
         return Ok(None);
     };
-    if place.followed < selectors.len() {
+    if place.depth < selectors.len() {
         return effect_at_missing(alloc, buffers, texts, place.value);
     }
     let Some(selector) = selectors.pop() else {
@@ -105,7 +105,7 @@ pub fn effect_of(
         value: place.value,
         container: place.container,
         position: place.positions.last().copied().unwrap_or(0),
-        count: place.same.len(),
+        count: place.duplicates.len(),
         key: selector.key,
     };
     effect_at_child(alloc, buffers, texts, last)
@@ -118,8 +118,8 @@ fn effect_at_missing(
     texts: Texts<'_>,
     span: Span,
 ) -> Result<Option<Effect>, AllocError> {
-    let there = slice(texts.old, span.from, span.to);
-    if !there.starts_with('{') && !there.starts_with('[') {
+    let text_there = slice(texts.old, span.from, span.to);
+    if !text_there.starts_with('{') && !text_there.starts_with('[') {
         return Ok(Some(Effect::Replaced(span)));
     }
     let Some(family) = family_of(alloc, buffers, texts, span)? else {

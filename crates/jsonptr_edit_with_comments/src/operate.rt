@@ -179,14 +179,14 @@ fn addition_of(
         Err(LocateError::Memory(error)) => return Err(error),
         Err(_error) => return Ok(None),
     };
-    let Some(own) = if_json(own_value(alloc, text, located))? else {
+    let Some(raw) = if_json(own_value(alloc, text, located))? else {
         return Ok(None);
     };
     let add = Operation::Add {
         path: path.to_buf(alloc)?,
-        value: own.to_value(alloc)?,
+        value: raw.to_value(alloc)?,
     };
-    RawOperation::with_text(alloc, add, own)
+    RawOperation::with_text(alloc, add, raw)
 }
 
 /// Returns the value with its own text: as it is written, or without white space if it has comments in
@@ -195,7 +195,7 @@ fn own_value(alloc: Global, text: &str, located: Located<'_>) -> Result<RawValue
     let from = located.before.len();
     let to = from.saturating_add(located.value.len());
     match text.get(from..to) {
-        Some(own) if own == located.value => return RawValue::parse(alloc, own),
+        Some(written) if written == located.value => return RawValue::parse(alloc, written),
         _ => {}
     }
     let mut scratch = Scratch::new(alloc);

@@ -63,7 +63,7 @@ fn replacement(alloc: Global, texts: Texts<'_>, span: Span) -> Result<Change, Al
     let new = texts.moved(span);
     Ok(Change {
         comma: Comma::Same,
-        was: span,
+        replaced: span,
         piece: String::from_str(alloc, slice(texts.new, new.from, new.to))?,
         child: Extent {
             child: span,
@@ -90,7 +90,7 @@ fn removed(
     let is_object = slice(texts.old, family.container.from, family.container.to).starts_with('{');
     Ok(Some(Change {
         comma: removal.comma,
-        was: removal.was,
+        replaced: removal.span,
         piece: String::new(alloc),
         child: *child,
         key: if is_object { Some(key) } else { None },

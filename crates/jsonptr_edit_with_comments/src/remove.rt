@@ -33,7 +33,7 @@ pub struct Removed {
     /// A comma that goes, too.
     pub comma: Comma,
     /// The child, and what goes with it.
-    pub was: Span,
+    pub span: Span,
 }
 
 /// Returns what is removed with the child at the position, or `None` if that is not clear.
@@ -65,9 +65,9 @@ pub fn removal(texts: Texts<'_>, family: &Family, position: usize) -> Option<Rem
 }
 
 /// Returns the removal of the span, without a comma elsewhere.
-fn alone(was: Span) -> Option<Removed> {
+fn alone(span: Span) -> Option<Removed> {
     let comma = Comma::Same;
-    Some(Removed { comma, was })
+    Some(Removed { comma, span })
 }
 
 impl<'t> Around<'t> {
@@ -105,19 +105,19 @@ impl<'t> Around<'t> {
 
     /// Returns the removal of the line of the child, which begins at the offset.
     fn line(&self, start: usize) -> Option<Removed> {
-        let was = Span {
+        let span = Span {
             from: start,
             to: self.line_end(),
         };
         if self.is_last {
             if self.is_first || self.after.comma.is_some() {
-                return alone(was);
+                return alone(span);
             }
             let comma = Comma::Taken(self.before.comma?);
-            return Some(Removed { comma, was });
+            return Some(Removed { comma, span });
         }
         if self.after.comma? < self.after.tail {
-            alone(was)
+            alone(span)
         } else {
             None
         }
@@ -138,7 +138,7 @@ impl<'t> Around<'t> {
         let from = self.space_start();
         Some(Removed {
             comma,
-            was: Span { from, to },
+            span: Span { from, to },
         })
     }
 

@@ -20,7 +20,7 @@ FindsInText text tokens v = (d : Data) × (read text ≡ Some d) × FindsValue d
 abbrev pub RefusesInText : Text → List Text → Error → Type 0
 RefusesInText text tokens e = (d : Data) × (read text ≡ Some d) × Refuses (nodes d) tokens e
 
--- `IsInTextError text tokens e`: `e` is why resolving `tokens` in `text` fails, if it is not for memory
+-- `IsInTextError text tokens e`: `e` is why resolving `tokens` in `text` fails, unless an allocation failed
 abbrev pub IsInTextError : Text → List Text → InTextError → Type 0
 IsInTextError text tokens NotJson = read text ≡ None
 IsInTextError text tokens (Resolve e) = RefusesInText text tokens e

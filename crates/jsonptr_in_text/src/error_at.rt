@@ -19,10 +19,7 @@ pub fn error_at(pointer: Pointer<'_>, left: usize, kind: Kind) -> Error
     let count = pointer.count();
     let position = count.saturating_sub(left);
     let Some((front, rest)) = pointer.split_at(position) else {
-        return Error::NotFound {
-            position,
-            offset: 0,
-        };
+        unreachable!()
     };
     let offset = front.as_str().len();
     let Some((token, _)) = rest.split_front() else {

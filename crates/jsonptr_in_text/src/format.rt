@@ -28,13 +28,14 @@ pub enum Format {
 ///
 /// The tokens are unchanged, one for one: the members in their order, repeated ones too, and the
 /// text of each number. Only the escapes of strings are written in their shortest form. So the result
-/// is read as the same document. No number is read, and no document is built.
+/// is read as the same document. A number is only tested for its range. Of the document at most a
+/// member `""` at the root is built.
 ///
 /// The scratch is that of any earlier call, also of one that failed.
 ///
 /// # Errors
 ///
-/// - [`ReadError::NotJson`] if the text is not JSON.
+/// - [`ReadError::NotJson`] if `serde_json` does not read the text.
 /// - [`ReadError::Memory`] if an allocation fails.
 ///
 /// # Examples

@@ -22,7 +22,7 @@
 //!
 //! # Cost
 //!
-//! One pass over the text. Memory for the text's strings, unescaped, and for the value that is
+//! One pass over the text, and two of [`format_text`]. Memory for the text's strings, unescaped, and for the value that is
 //! found. The stack is in proportion to the depth that is read, at most 127.
 //!
 //! To resolve in many short texts keep one [`Scratch`], and pass it to the calls that end in `_with`:

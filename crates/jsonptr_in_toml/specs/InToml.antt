@@ -78,27 +78,27 @@ LacksInToml text ts = (d : Data) × ReadsAsToml text d × ((w : Path) → Names 
 abbrev pub ListsInToml : Listed → Text → Text → Type 0
 ListsInToml which text out = (d : Data) × ReadsAsToml text d × ListsToml which d out
 
--- `IsReadTomlError text e`: `e` is why `text` is not read, if it is not for memory
+-- `IsReadTomlError text e`: `e` is why `text` is not read, unless an allocation failed
 abbrev pub IsReadTomlError : Text → ReadTomlError → Type 0
 IsReadTomlError text reading.NotToml = parse_document text ≡ None
 IsReadTomlError text reading.DocumentTooDeep = IsDeep text
 IsReadTomlError text (reading.Memory f) = ⊤
 
--- `IsPrintTomlError d e`: `e` is why the value `d` is not printed as a document, if it is not for memory. A value that nests
--- too deep is not looked at further
+-- `IsPrintTomlError d e`: `e` is why the value `d` is not printed as a document, unless an allocation failed. A value
+-- that nests too deep is not looked at further
 abbrev pub IsPrintTomlError : Data → PrintTomlError → Type 0
 IsPrintTomlError d printing.TooDeep = HasDeepValues d
 IsPrintTomlError d printing.NoText = (HasDeepValues d → ⊥) × HasNoText d
 IsPrintTomlError d (printing.Memory f) = ⊤
 
--- `IsInTomlError text ts e`: `e` is why no value is found, if it is not for memory
+-- `IsInTomlError text ts e`: `e` is why no value is found, unless an allocation failed
 abbrev pub IsInTomlError : Text → List Text → InTomlError → Type 0
 IsInTomlError text ts finding.NotToml = parse_document text ≡ None
 IsInTomlError text ts finding.DocumentTooDeep = IsDeep text
 IsInTomlError text ts (finding.Resolve f) = (d : Data) × ReadsAsToml text d × Refuses (nodes d) ts f
 IsInTomlError text ts (finding.Memory f) = ⊤
 
--- `IsAssignAndPrintError text ts v e`: `e` is why `v` is not assigned at the tokens, if it is not for memory
+-- `IsAssignAndPrintError text ts v e`: `e` is why `v` is not assigned at the tokens, unless an allocation failed
 abbrev pub IsAssignAndPrintError : Text → List Text → Data → EditTomlError AssignError → Type 0
 IsAssignAndPrintError text ts v editing.NotToml = parse_document text ≡ None
 IsAssignAndPrintError text ts v editing.DocumentTooDeep = IsDeep text
@@ -111,7 +111,7 @@ IsAssignAndPrintError text ts v editing.NoText =
     (d2 : Data) × AssignsTo text ts v d2 × IsPrintTomlError d2 printing.NoText
 IsAssignAndPrintError text ts v (editing.Memory f) = ⊤
 
--- `IsDeleteAndPrintError text ts e`: `e` is why nothing is deleted, if it is not for memory
+-- `IsDeleteAndPrintError text ts e`: `e` is why nothing is deleted, unless an allocation failed
 abbrev pub IsDeleteAndPrintError : Text → List Text → EditTomlError Infallible → Type 0
 IsDeleteAndPrintError text ts editing.NotToml = parse_document text ≡ None
 IsDeleteAndPrintError text ts editing.DocumentTooDeep = IsDeep text

@@ -9,7 +9,7 @@ use Rattle.std.specs.Io.KnownBytes.{Consumes}
 use Rattle.jsonptr_io.specs.Lines.{IsOneLine, AreLines, IsNextLine}
 use Rattle.jsonptr_io.specs.PrivateLines.{CutsBreak, joined, AreAllLines}
 use Rattle.jsonptr_io.specs.declared.read.Ending.{Ending}
-use Rattle.jsonptr_io.specs.declared.read.Ending.TheVariants.{Break, Input, Nothing}
+use Rattle.jsonptr_io.specs.declared.read.Ending.TheVariants.{Break, Input, NoLine}
 
 abbrev Line : Type 0
 Line = List ℕ
@@ -149,7 +149,7 @@ next_of old new got line Input stops some known read cut = (
     all_known (Some xs) h =
         let through : IsOneLine (take_through 10 xs) = subst IsOneLine (cut.0 ∙ h) one in
         sym (whole xs through) ∙ sym h ∙ sym cut.0
-next_of old new got line Nothing stops some known read cut = absurd cut
+next_of old new got line NoLine stops some known read cut = absurd cut
 
 -- ---- lines in a row
 

@@ -6,7 +6,7 @@ use Rattle.std.proofs.Math.Seq.{take-append_seam}
 use Rattle.jsonptr_io.specs.Lines.{IsOneLine, AreLines, IsNextLine}
 use Rattle.jsonptr_io.specs.Streams.{AppendsPrefix}
 use Rattle.jsonptr_io.specs.Whole.{broken, IsBroken}
-use Rattle.jsonptr_io.specs.declared.read.Ending.TheVariants.{Break, Input, Nothing}
+use Rattle.jsonptr_io.specs.declared.read.Ending.TheVariants.{Break, Input, NoLine}
 use Rattle.jsonptr_io.proofs.LineLemmas.{same_start, no_feed}
 
 abbrev Line : Type 0
@@ -84,7 +84,7 @@ none_left (b ∷ bytes) rest e = let less : bytes ≡ bytes ++ rest = cc in none
 pub next_last : (bytes rest l : Line) → IsNextLine (Some bytes) (Some rest) l Input → AreLines bytes (l ∷ []) × (rest ≡ [])
 next_last bytes rest l h = ((h.0, inr (h.3, h.1, refl)), none_left l rest (sym h.3 ∙ h.2))
 
-pub next_none : (bytes rest l : Line) → IsNextLine (Some bytes) (Some rest) l Nothing → AreLines bytes [] × (rest ≡ [])
+pub next_none : (bytes rest l : Line) → IsNextLine (Some bytes) (Some rest) l NoLine → AreLines bytes [] × (rest ≡ [])
 next_none bytes rest l h = (h.0, sym h.1 ∙ h.0)
 
 -- ---- a prefix that is written

@@ -2,7 +2,7 @@
 use Rattle.std.specs.Prelude.{◌≡◌, ◌≢◌, ◌⊎◌, ℕ, List, [], ◌∷◌, ◌++◌, Option, IfSome, All}
 use Rattle.std.specs.Io.KnownBytes.{Consumes, IsAtEnd}
 use Rattle.jsonptr_io.specs.declared.read.Ending.{Ending}
-use Rattle.jsonptr_io.specs.declared.read.Ending.TheVariants.{Break, Input, Nothing}
+use Rattle.jsonptr_io.specs.declared.read.Ending.TheVariants.{Break, Input, NoLine}
 
 -- `IsOneLine text`: `text` contains no line feed
 abbrev pub IsOneLine : List ℕ → Type 0
@@ -21,4 +21,4 @@ AreLines bytes (l ∷ ls) =
 abbrev pub IsNextLine : Option (List ℕ) → Option (List ℕ) → List ℕ → Ending → Type 0
 IsNextLine old new l Break = IsOneLine l × Consumes old new (l ++ 10 ∷ [])
 IsNextLine old new l Input = IsOneLine l × (l ≢ []) × Consumes old new l × IfSome old (λ bytes. bytes ≡ l)
-IsNextLine old new l Nothing = IsAtEnd old × Consumes old new []
+IsNextLine old new l NoLine = IsAtEnd old × Consumes old new []

@@ -3,13 +3,13 @@ use Rattle.std.specs.Prelude.{◌≡◌, ◌-◌, ℕ, List, [], ◌∷◌, ◌+
 use Rattle.std.specs.Io.BufRead.{ends_with_byte}
 use Rattle.jsonptr_io.specs.Lines.{IsOneLine}
 use Rattle.jsonptr_io.specs.declared.read.Ending.{Ending}
-use Rattle.jsonptr_io.specs.declared.read.Ending.TheVariants.{Break, Input, Nothing}
+use Rattle.jsonptr_io.specs.declared.read.Ending.TheVariants.{Break, Input, NoLine}
 
 -- `CutsBreak old new ending`: `new` is the text `old` without the line feed at its end, if it has one
 abbrev pub CutsBreak : List ℕ → List ℕ → Ending → Type 0
 CutsBreak old new Break = (old ≡ new ++ 10 ∷ []) × (new ≡ take (length old - 1) old)
 CutsBreak old new Input = (new ≡ old) × (ends_with_byte 10 old ≡ false)
-CutsBreak old new Nothing = ⊥
+CutsBreak old new NoLine = ⊥
 
 -- `joined ls`: the lines `ls`, each with a line feed after it
 abbrev pub joined : List (List ℕ) → List ℕ

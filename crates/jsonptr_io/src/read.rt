@@ -16,7 +16,7 @@ pub enum Ending {
     /// At the end of the input, without a line break. It has at least one byte.
     Input,
     /// There is no further line: the input is at its end.
-    Nothing,
+    NoLine,
 }
 
 /// Reads the next line into `line`, without its line break. What `line` had before is removed, and
@@ -37,7 +37,7 @@ pub enum Ending {
 /// assert_eq!(rt; next_line(&mut input, &mut line).ok(), Some(Ending::Input));
 /// assert_eq!(rt; line.as_slice(), b"two".as_slice());
 /// let last = next_line(&mut input, &mut line).ok();
-/// assert_eq!(rt; last, Some(Ending::Nothing));
+/// assert_eq!(rt; last, Some(Ending::NoLine));
 /// ```
 pub fn next_line<R: BufRead>(input: &mut R, line: &mut Vec<u8>) -> Result<Ending, InputError>
     ensures line { IfOk result
@@ -46,7 +46,7 @@ pub fn next_line<R: BufRead>(input: &mut R, line: &mut Vec<u8>) -> Result<Ending
 {
     line.clear();
     match input.read_until(b'\n', line) {
-        Ok(0) => Ok(Ending::Nothing),
+        Ok(0) => Ok(Ending::NoLine),
         Ok(_) => Ok(cut_break(line)),
         Err(error) if error.kind() == ErrorKind::OutOfMemory => Err(InputError::Memory(AllocError)),
         Err(_) => Err(InputError::Read),

@@ -6,7 +6,7 @@ use Rattle.jsonptr.specs.Content.{Content, scalar, array, object, Items, no_item
 use Rattle.jsonptr_tree.proofs.ContentLemmas.{map_of-sub}
 use Rattle.jsonptr_tree.proofs.FollowingLemmas.{Names-StopsBefore}
 use Rattle.jsonptr_tree.proofs.NodeLemmas.{Names_one_path}
-use Rattle.jsonptr_walk.specs.Follow.{NamesNothing}
+use Rattle.jsonptr.specs.Delete.{NamesNothing}
 use Rattle.jsonptr_journal.specs.Writing.{write_item, write_step, write_below, write_at}
 use Rattle.jsonptr_journal.specs.Changes.{ReplacesContent}
 use Rattle.jsonptr_journal.specs.Leading.{StopsAtOffset, AtNamed}

@@ -19,20 +19,20 @@ use Rattle.jsonptr_tree.proofs.LevelLemmas.{items_by, members_by, items_len-by, 
 use Rattle.jsonptr_tree.proofs.ContentLemmas.{content_at-below, content_at-push}
 use Rattle.jsonptr_tree.proofs.JsonLemmas.{array_is, object_is}
 use Rattle.jsonptr_document.proofs.JsonLevel.{array_at, object_at}
-use Rattle.jsonptr_journal.specs.declared.location.Part.{Part}
-use Rattle.jsonptr_journal.specs.Location.{part_step, steps_of, contents_of, LeadsNowhereAt}
+use Rattle.jsonptr_journal.specs.declared.location.LocationStep.{LocationStep}
+use Rattle.jsonptr_journal.specs.Location.{path_step, steps_of, contents_of, LeadsNowhereAt}
 use Rattle.jsonptr_journal.specs.PrivateNodeMut.{MovesTo, MovesBack, IsLost}
 use Rattle.jsonptr_journal.specs.Writing.{write_item, write_member, write_step, write_below, write_at}
 use Rattle.jsonptr_journal.specs.PrivateNodeMut.{nth}
 
 -- ---- the step at a position
 
-pub nth_at : (ps : List Part) (i : ℕ) (p : Part) → i < length ps → p ≡ get_or ps i p → nth i (steps_of ps) ≡ Some (part_step p)
+pub nth_at : (ps : List LocationStep) (i : ℕ) (p : LocationStep) → i < length ps → p ≡ get_or ps i p → nth i (steps_of ps) ≡ Some (path_step p)
 nth_at [] i p h is = absurd (omega arith)
-nth_at (q ∷ ps) zero p h is = ap (λ (r : Part). Some (part_step r)) (sym is)
+nth_at (q ∷ ps) zero p h is = ap (λ (r : LocationStep). Some (path_step r)) (sym is)
 nth_at (q ∷ ps) (suc i) p h is = nth_at ps i p (omega arith) is
 
-pub nth_past : (ps : List Part) (i : ℕ) → length ps ≤ i → nth i (steps_of ps) ≡ None
+pub nth_past : (ps : List LocationStep) (i : ℕ) → length ps ≤ i → nth i (steps_of ps) ≡ None
 nth_past [] i h = refl
 nth_past (q ∷ ps) zero h = absurd (omega arith)
 nth_past (q ∷ ps) (suc i) h = nth_past ps i (omega arith)

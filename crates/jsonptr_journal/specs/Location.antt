@@ -5,23 +5,23 @@ use Rattle.serde_json.specs.declared.value.Value.{Value}
 use Rattle.jsonptr.specs.Node.{Step, key, place, Path}
 use Rattle.jsonptr.specs.Content.{Content, child, content_at}
 use Rattle.jsonptr.specs.Json.{content}
-use Rattle.jsonptr_journal.specs.declared.location.Part.{Part}
-use Rattle.jsonptr_journal.specs.declared.location.Part.TheVariants as part
+use Rattle.jsonptr_journal.specs.declared.location.LocationStep.{LocationStep}
+use Rattle.jsonptr_journal.specs.declared.location.LocationStep.TheVariants as step
 use Rattle.jsonptr_journal.specs.declared.location.Location.{Location}
 
--- `part_step p`: the step of the part `p`
-abbrev pub part_step : Part → Step
-part_step (part.Key k) = key (string_bytes k)
-part_step (part.Index i) = place i
+-- `path_step s`: `s` as a step of a path
+abbrev pub path_step : LocationStep → Step
+path_step (step.Key k) = key (string_bytes k)
+path_step (step.Index i) = place i
 
--- `steps_of ps`: the steps of the parts `ps`
-abbrev pub steps_of : List Part → Path
+-- `steps_of ss`: the path of the steps `ss`
+abbrev pub steps_of : List LocationStep → Path
 steps_of [] = []
-steps_of (p ∷ ps) = part_step p ∷ steps_of ps
+steps_of (s ∷ ss) = path_step s ∷ steps_of ss
 
 -- `path_of l`: the path of the location `l`
 abbrev pub path_of : Location → Path
-path_of l = steps_of l.parts.items
+path_of l = steps_of l.steps.items
 
 -- `contents_of v`: what the value `v` contains
 abbrev pub contents_of : Value → Content

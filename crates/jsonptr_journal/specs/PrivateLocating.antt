@@ -7,9 +7,9 @@ use Rattle.jsonptr.specs.Text.{Text}
 use Rattle.jsonptr.specs.Node.{Path, NodeMap, NamesStep}
 use Rattle.jsonptr.specs.Following.{LacksStep}
 use Rattle.jsonptr.specs.Json.{nodes}
-use Rattle.jsonptr_walk.specs.Follow.{NamesNothing}
+use Rattle.jsonptr.specs.Delete.{NamesNothing}
 use Rattle.jsonptr_document.specs.ChildRef.{IsIndexIn}
-use Rattle.jsonptr_journal.specs.Location.{part_step}
+use Rattle.jsonptr_journal.specs.Location.{path_step}
 use Rattle.jsonptr_journal.specs.Locating.{Locates}
 use Rattle.jsonptr_journal.specs.declared.locate.Child.{Child}
 use Rattle.jsonptr_journal.specs.declared.locate.LocatedNode.{LocatedNode}
@@ -21,8 +21,8 @@ IsLocated d tokens r = MatchOption r (NamesNothing (nodes d) tokens) (Locates d 
 -- `Selects n stands x c`: the token `x` names the child `c` of the root of the map `n`. `stands w e` says that the
 -- document `e` is at the path `w`
 pub record Selects {D : Type 0} (n : NodeMap) (stands : Path → D → Type 0) (x : Text) (c : Child D) : Type 0 where
-  pub named : NamesStep (n []) x (part_step c.part)
-  pub there : stands (part_step c.part ∷ []) c.node.now
+  pub named : NamesStep (n []) x (path_step c.step)
+  pub there : stands (path_step c.step ∷ []) c.node.now
 
 -- `IsChildOf n stands x r`: `r` is the child of the root of the map `n` that the token `x` names, or `None` if it names
 -- none

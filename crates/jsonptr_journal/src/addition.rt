@@ -2,7 +2,7 @@
 ghost use Rattle.std.specs.Prelude.{◌≡◌, ◌<◌, IfOk, IfErr, OnErr, Option, option_map, string_bytes};
 ghost use Rattle.jsonptr.specs.Text.{HasNoTilde, text};
 ghost use Rattle.jsonptr.specs.Content.{Content, content_at, map_of};
-ghost use Rattle.jsonptr_walk.specs.Follow.{NamesNothing};
+ghost use Rattle.jsonptr.specs.Delete.{NamesNothing};
 ghost use Rattle.jsonptr_journal.specs.Leading.{AtNamed};
 ghost use Rattle.jsonptr_journal.specs.Location.{path_of, contents_of};
 ghost use Rattle.jsonptr_journal.specs.Writing.{At};

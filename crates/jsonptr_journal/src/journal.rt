@@ -12,7 +12,7 @@ ghost use Rattle.jsonptr_journal.specs.Undoing.{CanAdd, AddsAt, IsAddition, IsRe
 ghost use Rattle.jsonptr_journal.specs.Journal.{IsEntryOf, Chain, Pages, Undone, HasRoom};
 
 use crate::addition::{Addition, Target, add, replace, replace_node, restore, undo_addition};
-use crate::location::{Location, Part};
+use crate::location::{Location, LocationStep};
 use crate::members;
 use crate::node_mut::{NodeMut, object_mut};
 use crate::removal::{Removal, Taken, remove_element, undo_removal};
@@ -225,8 +225,8 @@ impl Journal {
         match location.split_last() {
             None => self.remove_root(alloc, document),
             Some((parent, last)) => match last {
-                Part::Key(key) => self.remove_member(alloc, document, parent, key),
-                Part::Index(index) => self.remove_element(alloc, document, parent, index),
+                LocationStep::Key(key) => self.remove_member(alloc, document, parent, key),
+                LocationStep::Index(index) => self.remove_element(alloc, document, parent, index),
             },
         }
     }

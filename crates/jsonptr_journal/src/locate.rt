@@ -10,7 +10,7 @@ ghost use Rattle.jsonptr.specs.Json.{nodes};
 ghost use Rattle.jsonptr_journal.specs.Locating.{Locates};
 ghost use Rattle.jsonptr_journal.specs.PrivateLocating.{IsLocated, IsChildOf, IsIndexOf};
 
-use crate::location::{Location, Part};
+use crate::location::{Location, LocationStep};
 use jsonptr::{Fault, Pointer, Token, resolve};
 use jsonptr_document::document::{Document, Node};
 use serde_json::Value;
@@ -29,7 +29,7 @@ pub struct LocatedNode<'v> {
 #[derive(Drop)]
 struct Child<'v, D> {
     /// The step to the child.
-    part: Part,
+    step: LocationStep,
     /// The child.
     node: &'v D,
 }
@@ -50,7 +50,7 @@ struct Child<'v, D> {
 /// let document = json!(in alloc; {"tags": ["draft"]})?;
 /// let found = locate(alloc, &document, Pointer::parse("/tags/0")?)?;
 /// assert_eq!(rt; found.node.as_str(), Some("draft"));
-/// assert_eq!(rt; found.location.parts.len(), 2);
+/// assert_eq!(rt; found.location.steps.len(), 2);
 /// ```
 pub fn locate<'v>(
     alloc: Global,
@@ -79,19 +79,19 @@ fn find<'v>(
 ) -> Result<Option<LocatedNode<'v>>, AllocError>
     ensures { IfOk result (IsLocated (view document.now) (tokens pointer.entry)) }
 {
-    let mut parts = Vec::with_capacity(alloc, pointer.count())?;
+    let mut steps = Vec::with_capacity(alloc, pointer.count())?;
     let mut node = document;
     let mut rest = pointer;
     while let Some((token, after)) = rest.split_front() {
         let Some(child) = named_child(alloc, node, &token)? else {
             return Ok(None);
         };
-        parts.push(child.part)?;
+        steps.push(child.step)?;
         node = child.node;
         rest = after;
     }
     Ok(Some(LocatedNode {
-        location: Location { parts },
+        location: Location { steps },
         node,
     }))
 }
@@ -112,7 +112,7 @@ fn named_child<'v, D: Document>(
         Node::Leaf => Ok(None),
         Node::Array(elements) => match index_in(token, elements.len()) {
             Some(index) => Ok(Some(Child {
-                part: Part::Index(index),
+                step: LocationStep::Index(index),
                 node: &elements[index],
             })),
             None => Ok(None),
@@ -121,7 +121,7 @@ fn named_child<'v, D: Document>(
             let key = token.decoded(alloc)?;
             match members.get(key.as_str()) {
                 Some(node) => Ok(Some(Child {
-                    part: Part::Key(key.into_owned(alloc)?),
+                    step: LocationStep::Key(key.into_owned(alloc)?),
                     node,
                 })),
                 None => Ok(None),

@@ -1,12 +1,12 @@
 //! The location of a node as decoded steps.
 ghost use Rattle.std.specs.Prelude.{◌≡◌, ◌↔◌, [], ◌∷◌, ◌++◌, IsTrue, MatchOption};
-ghost use Rattle.jsonptr_journal.specs.Location.{part_step, path_of};
+ghost use Rattle.jsonptr_journal.specs.Location.{path_step, path_of};
 
 use std::alloc::Global;
 
 /// One step from a node to a child.
 #[derive(Debug, Drop, PartialEq, Eq)]
-pub enum Part {
+pub enum LocationStep {
     /// To the member with this key.
     Key(String),
     /// To the element at this index.
@@ -20,7 +20,7 @@ pub enum Part {
 #[derive(Debug, Drop)]
 pub struct Location {
     /// The steps, from the root on.
-    pub parts: Vec<Part>,
+    pub steps: Vec<LocationStep>,
 }
 
 impl Location {
@@ -29,7 +29,7 @@ impl Location {
         ensures { path_of result ≡ [] }
     {
         Location {
-            parts: Vec::new(alloc),
+            steps: Vec::new(alloc),
         }
     }
 
@@ -42,16 +42,16 @@ impl Location {
     /// let document = json!(in alloc; [[3]])?;
     /// let located = locate(alloc, &document, Pointer::parse("/0/0")?)?;
     /// let (parent, last) = located.location.split_last().ok_or("not the root")?;
-    /// assert_eq!(rt; parent.parts.len(), 1);
-    /// assert_eq!(rt; last, Part::Index(0));
+    /// assert_eq!(rt; parent.steps.len(), 1);
+    /// assert_eq!(rt; last, LocationStep::Index(0));
     /// ```
-    pub fn split_last(self) -> Option<(Location, Part)>
+    pub fn split_last(self) -> Option<(Location, LocationStep)>
         ensures { MatchOption result (path_of self ≡ [])
-            (λ r. path_of self ≡ path_of r.0 ++ part_step r.1 ∷ []) }
+            (λ r. path_of self ≡ path_of r.0 ++ path_step r.1 ∷ []) }
     {
-        let mut parts = self.parts;
-        let last = parts.pop()?;
-        Some((Location { parts }, last))
+        let mut steps = self.steps;
+        let last = steps.pop()?;
+        Some((Location { steps }, last))
     }
 
     /// Returns whether the two locations are equal.
@@ -67,6 +67,6 @@ impl Location {
     pub fn is_same(&self, other: &Location) -> bool
         ensures { IsTrue result ↔ (path_of self.now ≡ path_of other.now) }
     {
-        self.parts == other.parts
+        self.steps == other.steps
     }
 }

@@ -13,7 +13,7 @@ ghost use Rattle.jsonptr_journal.specs.PrivateNodeMut.{MovesTo, IsLost, LendsMov
 ghost use Rattle.jsonptr_journal.specs.Leading.{StopsAtOffset};
 ghost use Rattle.jsonptr_journal.specs.Writing.{write_at};
 
-use crate::location::{Location, Part};
+use crate::location::{Location, LocationStep};
 use crate::token_step::{TokenError, token_step};
 use jsonptr::PointerBuf;
 use jsonptr_walk::descend::StepResult;
@@ -88,7 +88,7 @@ fn step<'v>(
         MovesTo (path_of location.now) i r.down at.old r.next r.node.now)
         × IfErr result (λ e. (e.position ≡ i) × IsLost (path_of location.now) i at.old) }
 {
-    if i >= location.parts.len() {
+    if i >= location.steps.len() {
         return Ok(StepResult {
             node: at,
             next: i,
@@ -96,8 +96,8 @@ fn step<'v>(
         });
     }
     let next = i + 1;
-    match &location.parts[i] {
-        Part::Index(index) => match at.as_array_mut() {
+    match &location.steps[i] {
+        LocationStep::Index(index) => match at.as_array_mut() {
             Some(elements) => {
                 if *index < elements.len() {
                     let node = &mut elements[*index];
@@ -112,7 +112,7 @@ fn step<'v>(
             }
             None => Err(NodeError { position: i }),
         },
-        Part::Key(key) => match at.as_object_mut() {
+        LocationStep::Key(key) => match at.as_object_mut() {
             Some(members) => match members.get_mut(key.as_str()) {
                 Some(node) => Ok(StepResult {
                     node,

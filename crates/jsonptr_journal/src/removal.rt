@@ -13,7 +13,7 @@ use crate::addition::{
     Addition, delete_element, delete_member, replace_node, restore, undo_addition,
 };
 use crate::elements::put_back;
-use crate::location::{Location, Part};
+use crate::location::{Location, LocationStep};
 use crate::members;
 use crate::node_mut::{NodeMut, array_mut, object_mut};
 use jsonptr::PointerBuf;
@@ -106,8 +106,8 @@ pub fn remove<D: NodeMut>(
             })
         }
         Some((parent, last)) => match last {
-            Part::Key(key) => remove_member(alloc, document, parent, key),
-            Part::Index(index) => remove_element(alloc, document, parent, index),
+            LocationStep::Key(key) => remove_member(alloc, document, parent, key),
+            LocationStep::Index(index) => remove_element(alloc, document, parent, index),
         },
     }
 }
@@ -192,8 +192,8 @@ pub fn remove_last<D: NodeMut>(alloc: Global, document: &mut D, location: Locati
     match location.split_last() {
         None => replace_node(document, &Location::root(alloc), Value::Null),
         Some((parent, last)) => match last {
-            Part::Key(key) => delete_member(document, &parent, key.as_str()),
-            Part::Index(index) => delete_element(document, &parent, index),
+            LocationStep::Key(key) => delete_member(document, &parent, key.as_str()),
+            LocationStep::Index(index) => delete_element(document, &parent, index),
         },
     }
 }

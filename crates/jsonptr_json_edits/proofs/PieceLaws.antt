@@ -26,18 +26,18 @@ from_piece text before piece after is =
 to_piece : (text before piece after : Bytes) → text ≡ before ++ (piece ++ after) → take (length before) text ≡ before
 to_piece text before piece after is = ap (take (length before)) is ∙ take-append_seam before (piece ++ after)
 
-pub spliced : (old new was piece : Bytes) → Splices old new was piece ↔ ((n : ℕ) × (take n new ≡ take n old) × (drop n old ≡ was ++ drop (n + length was) old) × (drop n new ≡ piece ++ drop (n + length piece) new) × (drop (n + length piece) new ≡ drop (n + length was) old))
-spliced old new was piece = (
+pub spliced : (old new middle piece : Bytes) → Splices old new middle piece ↔ ((n : ℕ) × (take n new ≡ take n old) × (drop n old ≡ middle ++ drop (n + length middle) old) × (drop n new ≡ piece ++ drop (n + length piece) new) × (drop (n + length piece) new ≡ drop (n + length middle) old))
+spliced old new middle piece = (
   λ h. (
     length h.before,
-    to_piece new h.before piece h.after h.new_is ∙ sym (to_piece old h.before was h.after h.old_is),
-    from_piece old h.before was h.after h.old_is,
+    to_piece new h.before piece h.after h.new_is ∙ sym (to_piece old h.before middle h.after h.old_is),
+    from_piece old h.before middle h.after h.old_is,
     from_piece new h.before piece h.after h.new_is,
-    after_piece new h.before piece h.after h.new_is ∙ sym (after_piece old h.before was h.after h.old_is),
+    after_piece new h.before piece h.after h.new_is ∙ sym (after_piece old h.before middle h.after h.old_is),
   ),
   λ h. record {
     before = take h.0 old;
-    after = drop (h.0 + length was) old;
+    after = drop (h.0 + length middle) old;
     old_is = sym (take-append-drop h.0 old) ∙ ap (λ (t : Bytes). take h.0 old ++ t) h.2;
     new_is = sym (take-append-drop h.0 new) ∙ ap₂ (λ (s t : Bytes). s ++ t) h.1 (h.3 ∙ ap (λ (t : Bytes). piece ++ t) h.4);
   },

@@ -8,10 +8,11 @@ ghost use Rattle.jsonptr_json_edits.specs.Editing.{AddsElement, AddsChosenMember
 ghost use Rattle.jsonptr_json_edits.specs.PrivateEditing.{AddsItemIf, AddsMemberIf};
 
 use crate::check_error::CheckError;
-use crate::decide::{FoundMember, Wanted, is_at, is_either, is_text, may_follow};
+use crate::decide::{FoundMember, Wanted, is_at, is_either, may_follow};
 use crate::edit::Child;
 use crate::same::{Readers, same, same_key, same_text, same_token};
 use json::{Scratch, Token};
+use jsonptr_json_search::decide::is_text;
 use jsonptr_json_search::skip::skip;
 
 /// Passes over the next value of both. The longer one is an object with one member more.

@@ -10,12 +10,13 @@ use crate::add::{add, insert};
 use crate::append::append;
 use crate::buffers::Buffers;
 use crate::check_error::CheckError;
-use crate::decide::{Wanted, is_at, is_either, is_text, may_follow};
+use crate::decide::{Wanted, is_at, is_either, may_follow};
 use crate::edit::{Edit, EditAt};
 use crate::same::{Readers, same, same_key, same_text, same_token};
 use json::{Reader, Scratch, Token};
+use jsonptr_json_search::decide::is_text;
 use jsonptr_value::MAX_DEPTH;
-use std::alloc::{AllocError, Global};
+use std::alloc::AllocError;
 
 /// Returns whether the new text reads as the old one with the edit of the value that the selectors
 /// lead to.

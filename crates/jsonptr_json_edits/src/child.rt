@@ -9,11 +9,11 @@ ghost use Rattle.jsonptr_json_edits.specs.Child.{IsValueText, IsMemberText, Have
 use crate::buffers::Buffers;
 use crate::check_error::CheckError;
 use crate::cut::cut_at;
-use crate::decide::is_text;
 use crate::locate::{Extent, trimmed_end};
 use crate::same::same_text;
 use crate::spacing::{is_blank, is_colon, is_comma, is_trimmed};
 use json::{Reader, Scratch, Token};
+use jsonptr_json_search::decide::is_text;
 use jsonptr_json_search::skip::skip;
 use jsonptr_value::MAX_DEPTH;
 use std::alloc::AllocError;
@@ -45,10 +45,10 @@ pub fn is_one_child(
         return Ok(false);
     }
     match key {
-        None => is_value(buffers, parts.was, value),
+        None => is_value(buffers, parts.middle, value),
         Some(key) => {
             let from = extent.value.saturating_sub(extent.child.from);
-            is_member(buffers, parts.was, from, key, value)
+            is_member(buffers, parts.middle, from, key, value)
         }
     }
 }
@@ -83,7 +83,7 @@ fn is_member(
     let Some(parts) = cut_at(text, trimmed_end(bytes, colon), from) else {
         return Ok(false);
     };
-    if !is_colon(parts.was) || !is_name(&mut buffers.old, parts.before, key)? {
+    if !is_colon(parts.middle) || !is_name(&mut buffers.old, parts.before, key)? {
         return Ok(false);
     }
     is_value(buffers, parts.after, value)

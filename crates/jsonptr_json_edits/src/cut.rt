@@ -11,10 +11,10 @@ pub struct Cut<'t> {
     /// What is before the first offset.
     pub before: &'t str,
     /// What is between the two offsets.
-    pub was: &'t str,
+    pub middle: &'t str,
     /// What is after the second offset.
     pub after: &'t str,
-    ghost whole: { text.now ≡ before.now ++ (was.now ++ after.now) },
+    ghost whole: { text.now ≡ before.now ++ (middle.now ++ after.now) },
 }
 
 /// Cuts the text at the two offsets. Returns `None` if they are not in order, or not between
@@ -24,7 +24,7 @@ pub struct Cut<'t> {
 ///
 /// ```rust
 /// let cut = cut_at("[1, 2]", 1, 2).ok_or("a cut")?;
-/// assert_eq!(rt; (cut.before, cut.was, cut.after), ("[", "1", ", 2]"));
+/// assert_eq!(rt; (cut.before, cut.middle, cut.after), ("[", "1", ", 2]"));
 /// assert!(rt; cut_at("[1]", 2, 1).is_none());
 /// ```
 pub fn cut_at(text: &str, from: usize, to: usize) -> Option<Cut<'_>>
@@ -32,11 +32,11 @@ pub fn cut_at(text: &str, from: usize, to: usize) -> Option<Cut<'_>>
 {
     let length = to.checked_sub(from)?;
     let (before, rest) = text.split_at_checked(from)?;
-    let (was, after) = rest.split_at_checked(length)?;
+    let (middle, after) = rest.split_at_checked(length)?;
     Some(Cut {
         text,
         before,
-        was,
+        middle,
         after,
     })
 }

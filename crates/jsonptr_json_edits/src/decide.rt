@@ -32,13 +32,6 @@ pub fn is_at(count: usize, index: usize) -> bool
     count == index
 }
 
-/// Returns whether the texts are equal.
-pub fn is_text(text: &str, other: &str) -> bool
-    ensures { IsTrue result ↔ (text.now ≡ other.now) }
-{
-    text == other
-}
-
 /// Returns whether a member may follow: the wanted one has the key, and no later one has it.
 pub fn may_follow(is_done: bool, wanted: bool, named: bool) -> bool
     ensures { IsTrue result → MayFollow is_done wanted named }

@@ -8,11 +8,11 @@ ghost use Rattle.jsonptr_json_edits.specs.Spacing.{IsBlank, IsSpaced, IsTrimmed,
 /// Up to some offset both texts have the same bytes. There the old text has the old piece, and the new
 /// text the new one. After these pieces both have the same bytes again.
 pub fn splice_law()
-    ensures { (old new was piece : List ℕ) → Splices old new was piece
+    ensures { (old new middle piece : List ℕ) → Splices old new middle piece
         ↔ ((n : ℕ) × (take n new ≡ take n old)
-        × (drop n old ≡ was ++ drop (n + length was) old)
+        × (drop n old ≡ middle ++ drop (n + length middle) old)
         × (drop n new ≡ piece ++ drop (n + length piece) new)
-        × (drop (n + length piece) new ≡ drop (n + length was) old)) }
+        × (drop (n + length piece) new ≡ drop (n + length middle) old)) }
 {}
 
 /// States that what is beside a child is white space with at most one comma.

@@ -9,9 +9,10 @@ ghost use Rattle.jsonptr_json_edits.specs.PrivateLeading.{LeadsIf, ChildLeads};
 
 use crate::buffers::Buffers;
 use crate::check_error::CheckError;
-use crate::decide::{Wanted, is_at, is_either, is_text, may_follow};
+use crate::decide::{Wanted, is_at, is_either, may_follow};
 use crate::same::same_text;
 use json::{Reader, Scratch, Token};
+use jsonptr_json_search::decide::is_text;
 use jsonptr_json_search::selector::Selector;
 use jsonptr_json_search::skip::skip;
 use jsonptr_value::MAX_DEPTH;

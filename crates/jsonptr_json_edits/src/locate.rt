@@ -27,11 +27,11 @@ pub struct Place {
     /// The array or object that the last selector leads to a child of.
     pub container: Span,
     /// How many selectors were followed.
-    pub followed: usize,
+    pub depth: usize,
     /// The position, among all children, of each child on the way.
     pub positions: Vec<usize>,
     /// The positions of all children that the last selector selects. Members can have the same key.
-    pub same: Vec<usize>,
+    pub duplicates: Vec<usize>,
 }
 
 /// A child of an array or an object.
@@ -55,7 +55,7 @@ pub struct Extent {
 /// let mut buffers = Buffers::new(alloc);
 /// let selectors = vec![in alloc; Selector { key: String::new(alloc), index: Some(1) }]?;
 /// let place = place_of(alloc, &mut buffers, "[1, 2.0]", &selectors)?.ok_or("a place")?;
-/// assert_eq!(rt; (place.value.from, place.value.to, place.followed), (4, 7, 1));
+/// assert_eq!(rt; (place.value.from, place.value.to, place.depth), (4, 7, 1));
 /// ```
 pub fn place_of(
     alloc: Global,
@@ -81,7 +81,7 @@ pub fn place_at(
     let Some(place) = place_of(alloc, buffers, text, selectors)? else {
         return Ok(None);
     };
-    if place.followed == selectors.len() {
+    if place.depth == selectors.len() {
         Ok(Some(place))
     } else {
         Ok(None)
@@ -129,9 +129,9 @@ fn locate(
         place: Place {
             value: all,
             container: all,
-            followed: 0,
+            depth: 0,
             positions: Vec::new(alloc),
-            same: Vec::new(alloc),
+            duplicates: Vec::new(alloc),
         },
     };
     find(&mut search, MAX_DEPTH, selectors, 0)?;
@@ -163,7 +163,7 @@ fn find(
     let Some((selector, rest)) = selectors.split_first() else {
         search.reader.skip_value(depth)?;
         search.place.value = search.span_from(from);
-        search.place.followed = level;
+        search.place.depth = level;
         return Ok(());
     };
     let Some(token) = search.reader.next() else {
@@ -191,7 +191,7 @@ fn find(
     };
     if !entered {
         search.place.value = search.span_from(from);
-        search.place.followed = level;
+        search.place.depth = level;
     } else if rest.is_empty() {
         search.place.container = search.span_from(from);
     }
@@ -294,7 +294,7 @@ fn elements(
         reader.skip_value(MAX_DEPTH)?;
         let to = end_of_value(text.as_bytes(), base.saturating_add(reader.offset()));
         let value = from;
-        keep(
+        append(
             &mut extents,
             Extent {
                 child: Span { from, to },
@@ -318,7 +318,7 @@ fn members(
         let value = base.saturating_add(reader.offset());
         reader.skip_value(MAX_DEPTH)?;
         let to = end_of_value(text.as_bytes(), base.saturating_add(reader.offset()));
-        keep(
+        append(
             &mut extents,
             Extent {
                 child: Span { from, to },
@@ -336,15 +336,15 @@ fn note(place: &mut Place, level: usize, position: usize, last: bool) -> Result<
     place.positions.truncate(level);
     place.positions.push(position)?;
     if last {
-        place.same.push(position)?;
+        place.duplicates.push(position)?;
     } else {
-        place.same.clear();
+        place.duplicates.clear();
     }
     Ok(())
 }
 
 /// Appends the extent of a child.
-fn keep(extents: &mut Vec<Extent>, extent: Extent) -> Result<(), AllocError> {
+fn append(extents: &mut Vec<Extent>, extent: Extent) -> Result<(), AllocError> {
     extents.push(extent)?;
     Ok(())
 }

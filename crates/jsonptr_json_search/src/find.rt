@@ -7,6 +7,7 @@ ghost use Rattle.jsonptr_json_search.specs.Reading.{ReadsTokens, Unreadable, Rea
 ghost use Rattle.jsonptr_json_search.specs.Search.{choices, items_count, element, IsOutcome, IsChildOutcome, Visits};
 ghost use Rattle.jsonptr_json_search.specs.declared.outcome.Outcome.TheVariants.{Stopped};
 
+use crate::decide::is_text;
 use crate::outcome::{Kind, Outcome};
 use crate::read::read;
 use crate::scalar::is_scalar;
@@ -256,11 +257,4 @@ fn is_at(count: usize, index: Option<usize>) -> bool
         Some(at) => at == count,
         None => false,
     }
-}
-
-/// Returns whether the texts are equal.
-fn is_text(text: &str, other: &str) -> bool
-    ensures { IsTrue result ↔ (text.now ≡ other.now) }
-{
-    text == other
 }

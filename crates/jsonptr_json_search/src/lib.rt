@@ -4,6 +4,7 @@
 //! `jsonptr_in_text` resolves pointers with it.
 #![tactic(auto)]
 
+pub mod decide;
 pub mod find;
 mod number;
 pub mod outcome;

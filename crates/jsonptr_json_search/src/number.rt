@@ -9,7 +9,7 @@ use serde_json::Number;
 /// Returns the number that the text writes: an integer of 64 bits or a finite float. Returns `None`
 /// if it is out of range.
 #[inline(always)]
-pub fn parse(text: &str) -> Option<Number>
+pub fn parse_number(text: &str) -> Option<Number>
     ensures { option_map number_view result ≡ number_of text.now }
 {
     let bytes = text.as_bytes();

@@ -6,7 +6,7 @@ ghost use Rattle.jsonptr_json_search.specs.Reading.{ReadsTokens, Unreadable, Rea
 ghost use Rattle.jsonptr_json_search.specs.PrivateReading.{scalar_of};
 ghost use Rattle.jsonptr_value.specs.declared.from_text.ReadError.TheVariants.{NotJson};
 
-use crate::number::parse;
+use crate::number::parse_number;
 use json::{Reader, Token};
 use jsonptr_value::ReadError;
 use serde_json::{Map, Value};
@@ -54,10 +54,7 @@ pub fn read(alloc: Global, reader: &mut Reader<'_>, depth: usize) -> Result<Valu
             let members = read_members(alloc, reader, depth - 1)?;
             Ok(Value::Object(members))
         }
-        _ => {
-            let scalar = read_scalar(alloc, token)?;
-            Ok(scalar)
-        }
+        _ => read_scalar(alloc, token),
     }
 }
 
@@ -73,7 +70,7 @@ fn read_scalar(alloc: Global, token: Token<'_>) -> Result<Value, ReadError>
 {
     match token {
         Token::String(text) => Ok(Value::String(String::from_str(alloc, text)?)),
-        Token::Number(text) => match parse(text) {
+        Token::Number(text) => match parse_number(text) {
             Some(number) => Ok(Value::Number(number)),
             None => Err(ReadError::NotJson),
         },

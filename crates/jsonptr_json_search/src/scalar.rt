@@ -4,7 +4,7 @@ ghost use Rattle.serde_json.specs.Read.{number_of};
 ghost use Rattle.json.specs.Reads.{token_of};
 ghost use Rattle.jsonptr_json_search.specs.PrivateReading.{scalar_of};
 
-use crate::number::parse;
+use crate::number::parse_number;
 use json::Token;
 
 /// Returns whether the token is a whole value that `serde_json` reads.
@@ -41,5 +41,5 @@ pub fn is_scalar(token: Token<'_>) -> bool
 fn is_in_range(number: &str) -> bool
     ensures { result ≡ is_some (number_of number.now) }
 {
-    parse(number).is_some()
+    parse_number(number).is_some()
 }

@@ -165,7 +165,7 @@ token_label_one words position o tokens r q h k = at (slice_get tokens position)
     at (Some x) e =
         ⊎_elim
         (λ fits.
-        let span : IsSpan tokens position o (offset_after_slash o tokens) (length (esc x)) = record { token = x; there = e; fits = fits; place_is = refl; len_is = refl } in
+        let span : IsSpan tokens position o (offset_after_slash o tokens) (length (esc x)) = record { token = x; there = e; fits = fits; start_is = refl; len_is = refl } in
         h.one _ _ span ∙ sym (k.one _ _ span))
         (λ over. h.none (inr over) ∙ sym (k.none (inr over)))
         (cases_lt (o + 1) (2 ^ 64))

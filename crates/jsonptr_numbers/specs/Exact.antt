@@ -8,7 +8,7 @@ use Rattle.jsonptr_value.specs.declared.from_text.ReadError.TheVariants as unrea
 use Rattle.jsonptr_numbers.specs.declared.exact.ExactError.{ExactError}
 use Rattle.jsonptr_numbers.specs.declared.exact.ExactError.TheVariants.{NotJson, Lost, Memory}
 
--- `IsExactError text e`: `e` is why `text` is not read, if it is not for memory
+-- `IsExactError text e`: `e` is why `text` is not read, unless an allocation failed
 abbrev pub IsExactError : Text → ExactError → Type 0
 IsExactError text NotJson = read text ≡ None
 IsExactError text (Lost l) = Loses text l

@@ -26,8 +26,8 @@ use Rattle.jsonptr_tree.proofs.JsonLemmas.{FindsValue-Finds, ascends_part}
 use Rattle.jsonptr_walk.specs.PrivatePutting.{HasNoIndex}
 use Rattle.jsonptr_walk.proofs.AssignLemmas.{no_index_place, above_place}
 use Rattle.jsonptr_patch.specs.Adding.{LacksTarget, LacksPlace}
-use Rattle.jsonptr_patch.specs.Operating.{Takes, IsProperFront, RefusesAdd}
-use Rattle.jsonptr_patch.specs.PrivateAdding.{told}
+use Rattle.jsonptr_patch.specs.Operating.{Takes, IsProperPrefix, RefusesAdd}
+use Rattle.jsonptr_patch.specs.PrivateAdding.{patch_error_at}
 
 -- evaluating tokens that lead to a path does not fail
 pub named_refused : (n : NodeMap) (tokens : List Text) (w : Path) (e : ResolveError) → Names n tokens w → Refuses n tokens e → ⊥
@@ -113,7 +113,7 @@ parent_lacks n tokens front x e split r = (
 )
 
 -- so a fault of evaluating them, reported for an operation, is one of adding
-pub parent_refused : (T U : Type 0) (n : NodeMap) (k : ℕ) (fault : Fault ResolveError) (tokens front : List Text) (x : Text) → tokens ≡ front ++ x ∷ [] → IfRefused {T = T} (Err fault) (Refuses n front) → IfRefused {T = U} (Err (told k fault)) (RefusesAdd n k tokens)
+pub parent_refused : (T U : Type 0) (n : NodeMap) (k : ℕ) (fault : Fault ResolveError) (tokens front : List Text) (x : Text) → tokens ≡ front ++ x ∷ [] → IfRefused {T = T} (Err fault) (Refuses n front) → IfRefused {T = U} (Err (patch_error_at k fault)) (RefusesAdd n k tokens)
 parent_refused T U n k (Refused e) tokens front x split r = inl (e, refl, parent_lacks n tokens front x e split r)
 parent_refused T U n k (Memory e) tokens front x split r = tt
 
@@ -133,7 +133,7 @@ pub taken : (d e v : Data) (tokens : List Text) → FindsValue d tokens v → De
 taken d e v tokens found left = record { found = FindsValue-Finds d tokens v found; left = left }
 
 -- a prefix is proper if there are more tokens after it
-pub proper_front : (front path rest : List Text) (b : Bool) → path ≡ front ++ rest → IsTrue b ↔ (rest ≡ []) → IsTrue (not b) ↔ IsProperFront front path
+pub proper_front : (front path rest : List Text) (b : Bool) → path ≡ front ++ rest → IsTrue b ↔ (rest ≡ []) → IsTrue (not b) ↔ IsProperPrefix front path
 proper_front front path [] b split root = (λ h. absurd (no_both b (root.1 refl) h), λ r. absurd (none r.0 r.1 (sym split ∙ r.2)))
   where
     no_both : (b : Bool) → IsTrue b → IsTrue (not b) → ⊥

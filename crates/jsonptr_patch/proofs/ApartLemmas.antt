@@ -8,7 +8,7 @@ use Rattle.jsonptr.specs.Node.{NodeMap}
 use Rattle.jsonptr.specs.Following.{Finds}
 use Rattle.jsonptr.specs.Json.{nodes}
 use Rattle.jsonptr_patch.specs.Adding.{Adds}
-use Rattle.jsonptr_patch.specs.Operating.{IsProperFront, Takes, Applies, RefusesTarget, RefusesAdd, RefusesOperation, AppliesBy, PassesBy, RefusesOperationBy, RefusesTestBy}
+use Rattle.jsonptr_patch.specs.Operating.{IsProperPrefix, Takes, Applies, RefusesTarget, RefusesAdd, RefusesOperation, AppliesBy, PassesBy, RefusesOperationBy, RefusesTestBy}
 use Rattle.jsonptr_patch.specs.Patching.{Patches}
 use Rattle.jsonptr_patch.specs.declared.operation.Operation.{Operation}
 use Rattle.jsonptr_patch.specs.declared.operation.Operation.TheVariants.{Add, Remove, Replace, Move, Copy, Test}
@@ -62,7 +62,7 @@ abbrev allowed : Operation → Type 0
 allowed (Add path value) = Unit {0}
 allowed (Remove path) = Unit {0}
 allowed (Replace path value) = Unit {0}
-allowed (Move from path) = IsProperFront from path → ⊥
+allowed (Move from path) = IsProperPrefix from path → ⊥
 allowed (Copy from path) = Unit {0}
 allowed (Test path value) = Unit {0}
 

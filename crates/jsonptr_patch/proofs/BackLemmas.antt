@@ -14,7 +14,7 @@ use Rattle.jsonptr_tree.proofs.RemovingLemmas.{Deletes_child}
 use Rattle.jsonptr_patch.specs.Apart.{Diverges, AllDiverge, pointers}
 use Rattle.jsonptr.specs.Delete.{NamesNothing}
 use Rattle.jsonptr_patch.specs.Inverse.{HasObject, TakesAddBack, IsReverse, TakesMoveBack, TakesBack}
-use Rattle.jsonptr_patch.specs.Operating.{IsProperFront, Takes, RestoresAt, RefusesAdd, RefusesMove, RefusesCopy, AppliesBy, RefusesOperationBy}
+use Rattle.jsonptr_patch.specs.Operating.{IsProperPrefix, Takes, RestoresAt, RefusesAdd, RefusesMove, RefusesCopy, AppliesBy, RefusesOperationBy}
 use Rattle.jsonptr_patch.specs.Patching.{Patches}
 use Rattle.jsonptr_patch.specs.PrivateInverse.{AppendsBack, TakesAllBackFrom, IsPlaceBack, RefusesChange}
 use Rattle.jsonptr_patch.specs.PrivateLater.{paths_of, removals, IsPending, TakesPlace, Frees}
@@ -118,8 +118,8 @@ pub way_back : (n left node : NodeMap) (from path : List Text) (o : Operation) �
 way_back n left node from path o d taken b = seen_after (λ n ts m. Takes n ts node m) (local_take node) (λ n ts. TakesAddBack n ts o) (seen_takes_add_back o) n left path from (diverges_turned n from path d) taken b
 
 -- where the value is, there is nothing above its source
-pub place_way : (n : NodeMap) (from path place : List Text) → Diverges n from path → TakesAddBack n path (Remove place) → IsProperFront place from → ⊥
-place_way n from path place d (inl b) f = diverges_way n path from (diverges_turned n from path d) (subst (λ (ts : List Text). IsProperFront ts from) b.0 f)
+pub place_way : (n : NodeMap) (from path place : List Text) → Diverges n from path → TakesAddBack n path (Remove place) → IsProperPrefix place from → ⊥
+place_way n from path place d (inl b) f = diverges_way n path from (diverges_turned n from path d) (subst (λ (ts : List Text). IsProperPrefix ts from) b.0 f)
 place_way n from path place d (inr e) f = ⊎_elim
     (λ (c : (e.front ≡ d.front) × (e.last ≡ d.there)).
     let at : e.path ≡ d.path = Names_one_path n d.front e.path d.path (subst (λ (ts : List Text). Names n ts e.path) c.0 e.named) d.named in
@@ -157,7 +157,7 @@ way_replaced n from path place again to value is same d b = inl (ap₂ (λ (ts u
 
 -- a move back, and an addition of the value that was moved
 
-pub move_reversed : (n : NodeMap) (from path : List Text) (o : Operation) (place to : List Text) → o ≡ Remove place → (IsProperFront place from → ⊥) → to ≡ from → TakesMoveBack n from path o (Move place to ∷ [])
+pub move_reversed : (n : NodeMap) (from path : List Text) (o : Operation) (place to : List Text) → o ≡ Remove place → (IsProperPrefix place from → ⊥) → to ≡ from → TakesMoveBack n from path o (Move place to ∷ [])
 move_reversed n from path o place to is apart same = subst (λ (p : Operation). TakesMoveBack n from path p (Move place to ∷ [])) (sym is) (inl (ap (λ (ts : List Text). Move place ts ∷ []) same, apart))
 
 pub both_reversed : (n : NodeMap) (from path : List Text) (o again : Operation) → RestoresAt n from again → TakesMoveBack n from path o (o ∷ again ∷ [])

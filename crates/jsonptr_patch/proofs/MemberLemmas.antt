@@ -7,7 +7,7 @@ use Rattle.jsonptr.specs.Put.{GoesThrough, same_step, rest_after, label_or, put}
 use Rattle.jsonptr_tree.proofs.NodeLemmas.{sub-root, Names-root, Names_one_list}
 use Rattle.jsonptr_tree.proofs.PutLemmas.{cases_same, cases_front, rest_after-append, rest_after-below, rest_after-other, rest_after-shorter, same_by_front, put_behind, put_none, put_other, sub-put, frame}
 use Rattle.jsonptr_patch.specs.Apart.{Diverges}
-use Rattle.jsonptr_patch.specs.Operating.{IsProperFront}
+use Rattle.jsonptr_patch.specs.Operating.{IsProperPrefix}
 
 -- different members
 
@@ -192,7 +192,7 @@ same_next (t ∷ f) x y fs bs e =
     same_next f x y fs bs tail
 
 -- a node does not move below itself where the pointers diverge
-pub diverges_way : (n : NodeMap) (from path : List Text) → Diverges n from path → IsProperFront from path → ⊥
+pub diverges_way : (n : NodeMap) (from path : List Text) → Diverges n from path → IsProperPrefix from path → ⊥
 diverges_way n from path d f =
     let whole : d.front ++ d.here ∷ (d.more ++ f.0 ∷ f.1) ≡ d.front ++ d.there ∷ d.others = sym (append_assoc d.front (d.here ∷ d.more) (f.0 ∷ f.1)) ∙ ap (λ (ts : List Text). ts ++ f.0 ∷ f.1) (sym d.first) ∙ sym f.2 ∙ d.second in
     d.differ (same_next d.front d.here d.there (d.more ++ f.0 ∷ f.1) d.others whole)

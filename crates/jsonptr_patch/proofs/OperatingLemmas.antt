@@ -13,7 +13,7 @@ use Rattle.jsonptr.specs.Types.Fault.TheVariants.{Refused, Memory}
 use Rattle.jsonptr.specs.Node.{NodeMap}
 use Rattle.jsonptr.specs.Json.{nodes, FindsValue}
 use Rattle.jsonptr_tree.proofs.JsonLemmas.{FindsValue-Finds}
-use Rattle.jsonptr_patch.specs.Operating.{Takes, IsProperFront, Passes, PassesBy, Applies, AppliesBy, RefusesAdd, RefusesMove, RefusesTest, RefusesTestBy, RefusesOperationBy}
+use Rattle.jsonptr_patch.specs.Operating.{Takes, IsProperPrefix, Passes, PassesBy, Applies, AppliesBy, RefusesAdd, RefusesMove, RefusesTest, RefusesTestBy, RefusesOperationBy}
 use Rattle.jsonptr_patch.specs.Patching.{Patches, PatchesBy, RefusesPatchBy}
 use Rattle.jsonptr_patch.specs.PrivateTesting.{IsPlain, RefusesCompare, SameValue, SameValueBy, DiffersNumerically}
 use Rattle.jsonptr_patch.specs.declared.operation.Operation.{Operation}
@@ -114,7 +114,7 @@ refused_all (Ok t) P Q all h = tt
 refused_all (Err (Refused e)) P Q all h = all e h
 refused_all (Err (Memory e)) P Q all h = tt
 
-pub left_refused : (n node left : NodeMap) (k : ℕ) (from path : List Text) (e : PatchError) → (IsProperFront from path → ⊥) → Takes n from node left → RefusesAdd left k path e → RefusesMove n k from path e
+pub left_refused : (n node left : NodeMap) (k : ℕ) (from path : List Text) (e : PatchError) → (IsProperPrefix from path → ⊥) → Takes n from node left → RefusesAdd left k path e → RefusesMove n k from path e
 left_refused n node left k from path e apart taken h = inr (apart, inr (node, left, taken, h))
 
 pub way_refused : {T : Type 0} (n : NodeMap) (k : ℕ) (f p from path : List Text) (r : Result T (Fault PatchError)) → f ≡ from → p ≡ path → IfRefused r (RefusesMove n k f p) → IfRefused r (RefusesMove n k from path)

@@ -10,7 +10,7 @@ use Rattle.jsonptr.specs.Json.{nodes}
 use Rattle.jsonptr.specs.Removing.{Deletes}
 use Rattle.jsonptr_tree.proofs.FollowingLemmas.{Finds_one}
 use Rattle.jsonptr_patch.specs.Adding.{Adds}
-use Rattle.jsonptr_patch.specs.Operating.{IsProperFront, Applies, RestoresAt}
+use Rattle.jsonptr_patch.specs.Operating.{IsProperPrefix, Applies, RestoresAt}
 use Rattle.jsonptr_patch.specs.declared.operation.Operation.{Operation}
 use Rattle.jsonptr_patch.specs.declared.operation.Operation.TheVariants.{Add, Remove, Move, Copy}
 use Rattle.jsonptr_patch.proofs.RestoringLemmas.{restored}
@@ -18,7 +18,7 @@ use Rattle.jsonptr_patch.proofs.RestoringLemmas.{restored}
 pub move_parts : (n m : NodeMap) (from path : List Text) (value : Value) → Applies n (Move from path) m → Finds n from (nodes (view value)) → (left : NodeMap) × Applies n (Remove from) left × Applies left (Add path value) m
 move_parts n m from path value a found = (a.left, (a.node, a.taken), subst (λ (q : NodeMap). Adds a.left path q m) (Finds_one n from a.node (nodes (view value)) a.taken.found found) a.added)
 
-pub move_whole : (n left m : NodeMap) (from path : List Text) (value : Value) → (IsProperFront from path → ⊥) → Finds n from (nodes (view value)) → Applies n (Remove from) left → Applies left (Add path value) m → Applies n (Move from path) m
+pub move_whole : (n left m : NodeMap) (from path : List Text) (value : Value) → (IsProperPrefix from path → ⊥) → Finds n from (nodes (view value)) → Applies n (Remove from) left → Applies left (Add path value) m → Applies n (Move from path) m
 move_whole n left m from path value apart found removed added = record {
   node = nodes (view value);
   left = left;

@@ -31,7 +31,7 @@ use Rattle.jsonptr_tree.proofs.RemovingLemmas.{Deletes-some}
 use Rattle.jsonptr_walk.specs.PrivatePutting.{HasNoIndex}
 use Rattle.jsonptr_patch.specs.Inserting.{with_place}
 use Rattle.jsonptr_patch.specs.Adding.{MeansPlace, AddsUnder, Adds}
-use Rattle.jsonptr_patch.specs.Operating.{Takes, IsProperFront, PassesBy, AppliesBy, RefusesTarget, RefusesAdd, RefusesTestBy, RefusesOperationBy}
+use Rattle.jsonptr_patch.specs.Operating.{Takes, IsProperPrefix, PassesBy, AppliesBy, RefusesTarget, RefusesAdd, RefusesTestBy, RefusesOperationBy}
 use Rattle.jsonptr_patch.specs.Testing.{Reading, nothing, truth, words, whole, reading, SameReading, exact, NumericallyEqual, SameNumbers, SameScalarBy, SameNodeBy, IsEqualBy, IsEqual, HasFloat}
 use Rattle.jsonptr_patch.specs.declared.operation.Operation.{Operation}
 use Rattle.jsonptr_patch.specs.declared.operation.Operation.TheVariants.{Add, Remove, Replace, Move, Copy, Test}
@@ -223,14 +223,14 @@ cases_equal by n m h k = ⊎_elim
 
 -- ---- a prefix of a list
 
-cases_proper : (f p : List Text) → IsProperFront f p ⊎ (IsProperFront f p → ⊥)
+cases_proper : (f p : List Text) → IsProperPrefix f p ⊎ (IsProperPrefix f p → ⊥)
 cases_proper [] [] = inr (λ r. let e : [] ≡ r.0 ∷ r.1 = r.2 in cc)
 cases_proper [] (t ∷ p) = inl (t, p, refl)
 cases_proper (a ∷ f) [] = inr (λ r. let e : [] ≡ a ∷ (f ++ r.0 ∷ r.1) = r.2 in cc)
 cases_proper (a ∷ f) (b ∷ p) = ⊎_elim
     (λ (e : a ≡ b). ⊎_elim
-    (λ (r : IsProperFront f p). inl (r.0, r.1, subst (λ (t : Text). b ∷ p ≡ t ∷ (f ++ r.0 ∷ r.1)) (sym e) (ap (λ (l : List Text). b ∷ l) r.2)))
-    (λ (d : IsProperFront f p → ⊥). inr (λ r. let g : b ∷ p ≡ a ∷ (f ++ r.0 ∷ r.1) = r.2 in let tail : p ≡ f ++ r.0 ∷ r.1 = cc in d (r.0, r.1, tail)))
+    (λ (r : IsProperPrefix f p). inl (r.0, r.1, subst (λ (t : Text). b ∷ p ≡ t ∷ (f ++ r.0 ∷ r.1)) (sym e) (ap (λ (l : List Text). b ∷ l) r.2)))
+    (λ (d : IsProperPrefix f p → ⊥). inr (λ r. let g : b ∷ p ≡ a ∷ (f ++ r.0 ∷ r.1) = r.2 in let tail : p ≡ f ++ r.0 ∷ r.1 = cc in d (r.0, r.1, tail)))
     (cases_proper f p))
     (λ (d : a ≡ b → ⊥). inr (λ r. let g : b ∷ p ≡ a ∷ (f ++ r.0 ∷ r.1) = r.2 in let head : a ≡ b = cc in d head))
     (cases_text a b)
@@ -329,8 +329,8 @@ module _ (resolve_some : ResolveSome) (assign_some : AssignSome) where
       (λ (r : (e : ResolveError) × Refuses n path e). inr (NoTarget k r.0, (r.0, refl, r.1)))
       (resolve_some n path document.0 utf8)
   applies_some by n k (Move from path) document utf8 = ⊎_elim
-      (λ (f : IsProperFront from path). inr (MoveIntoSelf k, inl (refl, f)))
-      (λ (apart : IsProperFront from path → ⊥). ⊎_elim
+      (λ (f : IsProperPrefix from path). inr (MoveIntoSelf k, inl (refl, f)))
+      (λ (apart : IsProperPrefix from path → ⊥). ⊎_elim
       (λ (r : (v m : NodeMap) × Takes n from v m). ⊎_elim
       (λ (a : (m : NodeMap) × Adds r.1 path r.0 m). inl (a.0, record { node = r.0; left = r.1; apart = apart; taken = r.2; added = a.1 }))
       (λ (a : (e : PatchError) × RefusesAdd r.1 k path e). inr (a.0, inr (apart, inr (r.0, r.1, r.2, a.1))))

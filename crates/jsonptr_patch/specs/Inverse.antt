@@ -9,11 +9,11 @@ use Rattle.jsonptr.specs.Delete.{NamesNothing}
 use Rattle.jsonptr.specs.Json.{nodes}
 use Rattle.jsonptr_patch.specs.Adding.{MeansPlace}
 use Rattle.jsonptr_patch.specs.Apart.{Diverges}
-use Rattle.jsonptr_patch.specs.Operating.{IsProperFront, Takes, Applies, RestoresAt}
+use Rattle.jsonptr_patch.specs.Operating.{IsProperPrefix, Takes, Applies, RestoresAt}
 use Rattle.jsonptr_patch.specs.declared.operation.Operation.{Operation}
 use Rattle.jsonptr_patch.specs.declared.operation.Operation.TheVariants.{Add, Remove, Replace, Move, Copy, Test}
 
--- `HasObject n tokens`: the tokens before the last one evaluate to an object.
+-- `HasObject n tokens`: the tokens before the last one evaluate to an object
 pub record HasObject (n : NodeMap) (tokens : List Text) : Type 0 where
   pub front : List Text
   pub last : Text
@@ -23,7 +23,7 @@ pub record HasObject (n : NodeMap) (tokens : List Text) : Type 0 where
   pub object : n path ≡ Some an_object
 
 -- `IsElementAt n tokens element`: the tokens before the last one evaluate to an array, and `element` are these tokens
--- and the index to which the last one refers.
+-- and the index to which the last one refers
 pub record IsElementAt (n : NodeMap) (tokens element : List Text) : Type 0 where
   pub front : List Text
   pub last : Text
@@ -37,7 +37,7 @@ pub record IsElementAt (n : NodeMap) (tokens element : List Text) : Type 0 where
   pub element_is : element ≡ front ++ dec index ∷ []
 
 -- `TakesAddBack n tokens o`: operation `o` takes back an addition to `n` at `tokens`. A new member, or an element, is
--- removed. A member that was replaced, or the whole document, is replaced by the old value.
+-- removed. A member that was replaced, or the whole document, is replaced by the old value
 abbrev pub TakesAddBack : NodeMap → List Text → Operation → Type 0
 TakesAddBack n tokens (Add path value) = ⊥
 TakesAddBack n tokens (Remove path) =
@@ -49,22 +49,22 @@ TakesAddBack n tokens (Copy from path) = ⊥
 TakesAddBack n tokens (Test path value) = ⊥
 
 -- `IsReverse n from path o back`: `back` moves the value back to `from`, where `o` takes back its addition at `path`. A
--- member that was replaced is added again; then the two pointers diverge at an object of `n`.
+-- member that was replaced is added again; then the two pointers diverge at an object of `n`
 abbrev pub IsReverse : NodeMap → List Text → List Text → Operation → List Operation → Type 0
 IsReverse n from path (Add p value) back = ⊥
-IsReverse n from path (Remove p) back = (back ≡ Move p from ∷ []) × (IsProperFront p from → ⊥)
+IsReverse n from path (Remove p) back = (back ≡ Move p from ∷ []) × (IsProperPrefix p from → ⊥)
 IsReverse n from path (Replace p value) back = (back ≡ Move p from ∷ Add p value ∷ []) × Diverges n from path
 IsReverse n from path (Move f p) back = ⊥
 IsReverse n from path (Copy f p) back = ⊥
 IsReverse n from path (Test p value) back = ⊥
 
 -- `TakesMoveBack n from path o back`: the operations `back` take back a move from `from` to `path` on `n`, where `o` takes
--- back the addition at `path`. They are the move back, or `o` and then the addition at `from`.
+-- back the addition at `path`. They are the move back, or `o` and then the addition at `from`
 abbrev pub TakesMoveBack : NodeMap → List Text → List Text → Operation → List Operation → Type 0
 TakesMoveBack n from path o back =
     IsReverse n from path o back ⊎ ((p : Operation) × (back ≡ o ∷ p ∷ []) × RestoresAt n from p)
 
--- `TakesBack n o back`: the operations `back` take back operation `o` on `n`.
+-- `TakesBack n o back`: the operations `back` take back operation `o` on `n`
 abbrev pub TakesBack : NodeMap → Operation → List Operation → Type 0
 TakesBack n (Add path value) back = (o : Operation) × (back ≡ o ∷ []) × TakesAddBack n path o
 TakesBack n (Remove path) back = (o : Operation) × (back ≡ o ∷ []) × RestoresAt n path o
@@ -76,7 +76,7 @@ TakesBack n (Move from path) back =
 TakesBack n (Copy from path) back = (o : Operation) × (back ≡ o ∷ []) × TakesAddBack n path o
 TakesBack n (Test path value) back = back ≡ []
 
--- `TakesAllBack n os back`: the operations `back` take back the operations `os` on `n`, the last one first.
+-- `TakesAllBack n os back`: the operations `back` take back the operations `os` on `n`, the last one first
 abbrev pub TakesAllBack : NodeMap → List Operation → List Operation → Type 0
 TakesAllBack n [] back = back ≡ []
 TakesAllBack n (o ∷ os) back =

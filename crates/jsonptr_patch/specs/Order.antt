@@ -6,7 +6,7 @@ use Rattle.jsonptr_patch.specs.declared.operation.Operation.{Operation}
 use Rattle.jsonptr_patch.specs.declared.operation.Operation.TheVariants.{Add, Remove, Replace, Move, Copy, Test}
 
 -- `OperationHasSortedKeys o`: the keys of each object in the value that `o` adds to the document are in ascending
--- order. The value of a test is only compared.
+-- order. The value of a test is only compared
 abbrev pub OperationHasSortedKeys : Operation → Type 0
 OperationHasSortedKeys (Add path value) = HasSortedKeys (view value)
 OperationHasSortedKeys (Remove path) = ⊤

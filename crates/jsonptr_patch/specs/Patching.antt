@@ -8,17 +8,17 @@ use Rattle.jsonptr_patch.specs.declared.operation.Operation.{Operation}
 use Rattle.jsonptr_patch.specs.declared.operation.PatchError.{PatchError}
 
 -- `PatchesBy c n os m`: the operations `os` turn `n` into `m`, each on the map that the previous one left. Tests compare
--- as `c`.
+-- as `c`
 abbrev pub PatchesBy : Comparison → NodeMap → List Operation → NodeMap → Type 0
 PatchesBy c n [] m = m ≡ n
 PatchesBy c n (o ∷ os) m = (next : NodeMap) × AppliesBy c n o next × PatchesBy c next os m
 
--- `Patches n os m`: the operations `os` turn `n` into `m`, where tests are strict.
+-- `Patches n os m`: the operations `os` turn `n` into `m`, where tests are strict
 abbrev pub Patches : NodeMap → List Operation → NodeMap → Type 0
 Patches n os m = PatchesBy Strict n os m
 
 -- `RefusesPatchBy c n os e`: some operations of `os` can be applied, and the next one fails with `e` on the map that they
--- leave. Its number counts from 0. Tests compare as `c`.
+-- leave. Its number counts from 0. Tests compare as `c`
 pub record RefusesPatchBy (c : Comparison) (n : NodeMap) (os : List Operation) (e : PatchError) : Type 0 where
   pub done : List Operation
   pub fails : Operation
@@ -28,6 +28,6 @@ pub record RefusesPatchBy (c : Comparison) (n : NodeMap) (os : List Operation) (
   pub applied : PatchesBy c n done left
   pub refused : RefusesOperationBy c left (length done) fails e
 
--- `RefusesPatch n os e`: the operations `os` fail so with `e`, where tests are strict.
+-- `RefusesPatch n os e`: the operations `os` fail so with `e`, where tests are strict
 abbrev pub RefusesPatch : NodeMap → List Operation → PatchError → Type 0
 RefusesPatch n os e = RefusesPatchBy Strict n os e

@@ -11,17 +11,17 @@ use Rattle.jsonptr_patch.specs.declared.operation.Operation.{Operation}
 use Rattle.jsonptr_patch.specs.declared.operation.Operation.TheVariants.{Add, Remove, Replace, Move, Copy, Test}
 use Rattle.jsonptr_patch.specs.declared.operation.PatchError.{PatchError}
 
--- `AppendsBack os back ps`: `ps` are `os` and then the operations `back`, the last one first.
+-- `AppendsBack os back ps`: `ps` are `os` and then the operations `back`, the last one first
 abbrev pub AppendsBack : List Operation → List Operation → List Operation → Type 0
 AppendsBack os back ps = ps ≡ os ++ reverse back
 
 -- `TakesAllBackFrom m ps n os`: what the operations `os`, the last one first, make of `n`, the operations `ps`, the last
--- one first, make of `m`.
+-- one first, make of `m`
 abbrev pub TakesAllBackFrom : NodeMap → List Operation → NodeMap → List Operation → Type 0
 TakesAllBackFrom m ps n os = (k : NodeMap) → Patches n (reverse os) k → Patches m (reverse ps) k
 
 -- `IsPlaceBack o back`: the operations `back` remove a value that operation `o` adds where there was none. A value that is
--- moved is moved back.
+-- moved is moved back
 abbrev pub IsPlaceBack : Operation → List Operation → Type 0
 IsPlaceBack (Add path value) back = back ≡ Remove path ∷ []
 IsPlaceBack (Remove path) back = ⊥
@@ -31,11 +31,11 @@ IsPlaceBack (Copy from path) back = back ≡ Remove path ∷ []
 IsPlaceBack (Test path value) back = ⊥
 
 -- `StaySorted d os ps`: if the keys of `d` are sorted, and those of the values in the operations `os`, so are those of the
--- values in the operations `ps`.
+-- values in the operations `ps`
 abbrev pub StaySorted : Data → List Operation → List Operation → Type 0
 StaySorted d os ps = HasSortedKeys d → All OperationHasSortedKeys os → All OperationHasSortedKeys ps
 
--- `RefusesChange n k o e`: operation `o`, with number `k`, fails on `n` with `e`, and is no test.
+-- `RefusesChange n k o e`: operation `o`, with number `k`, fails on `n` with `e`, and is no test
 abbrev pub RefusesChange : NodeMap → ℕ → Operation → PatchError → Type 0
 RefusesChange n k (Add path value) e = RefusesAdd n k path e
 RefusesChange n k (Remove path) e = RefusesTarget n k path e

@@ -20,12 +20,12 @@ use Rattle.jsonptr_patch.specs.declared.operation.Operation.{Operation}
 use Rattle.jsonptr_patch.specs.declared.operation.Operation.TheVariants.{Add, Remove, Replace, Move, Copy, Test}
 use Rattle.jsonptr_patch.specs.declared.operation.PatchError.{PatchError}
 
--- `IsObjectAt n tokens`: `tokens` evaluate to an object of `n`.
+-- `IsObjectAt n tokens`: `tokens` evaluate to an object of `n`
 abbrev pub IsObjectAt : NodeMap → List Text → Type 0
 IsObjectAt n tokens = (w : Path) × Names n tokens w × (n w ≡ Some an_object)
 
 -- `IsMemberAt n tokens w`: the tokens before the last one evaluate to an object of `n`, and `w` is the path of its member
--- under the last one. The object need not have the member.
+-- under the last one. The object need not have the member
 pub record IsMemberAt (n : NodeMap) (tokens : List Text) (w : Path) : Type 0 where
   pub front : List Text
   pub last : Text
@@ -35,7 +35,7 @@ pub record IsMemberAt (n : NodeMap) (tokens : List Text) (w : Path) : Type 0 whe
   pub object : n path ≡ Some an_object
   pub below : w ≡ path ++ key last ∷ []
 
--- `Forks xs ys front`: the tokens `xs` and `ys` begin with `front`, and go on with different tokens.
+-- `Forks xs ys front`: the tokens `xs` and `ys` begin with `front`, and go on with different tokens
 pub record Forks (xs ys front : List Text) : Type 0 where
   pub here : Text
   pub more : List Text
@@ -45,41 +45,41 @@ pub record Forks (xs ys front : List Text) : Type 0 where
   pub second : ys ≡ front ++ there ∷ others
   pub differ : here ≢ there
 
--- `paths_of ls`: the pointers of `ls`.
+-- `paths_of ls`: the pointers of `ls`
 abbrev pub paths_of : List Later → List (List Text)
 paths_of [] = []
 paths_of (l ∷ ls) = l.path ∷ paths_of ls
 
--- `removals ls`: the operations that remove the nodes `ls`.
+-- `removals ls`: the operations that remove the nodes `ls`
 abbrev pub removals : List Later → List Operation
 removals [] = []
 removals (l ∷ ls) = Remove l.path ∷ removals ls
 
--- `IsKept kept n tokens`: `tokens` name a path of `n`. It is that of `kept`, or `tokens` have no `~`.
+-- `IsKept kept n tokens`: `tokens` name a path of `n`. It is that of `kept`, or `tokens` have no `~`
 abbrev pub IsKept : Option Location → NodeMap → List Text → Type 0
 IsKept kept n tokens =
     MatchOption kept (HasNoTilde (text tokens) × (w : Path) × Names n tokens w) (λ here. Names n tokens (path_of here))
 
--- `IsReached d l`: the pointer of `l` names a node of `d`. It is at its location, or the pointer has no `~`.
+-- `IsReached d l`: the pointer of `l` names a node of `d`. It is at its location, or the pointer has no `~`
 abbrev pub IsReached : NodeMap → Later → Type 0
 IsReached d l = IsKept l.location d l.path
 
--- `AreScattered d ls`: the pointers of `ls` diverge from one another at objects of `d`, and each is reached.
+-- `AreScattered d ls`: the pointers of `ls` diverge from one another at objects of `d`, and each is reached
 abbrev pub AreScattered : NodeMap → List Later → Type 0
 AreScattered d [] = ⊤
 AreScattered d (l ∷ ls) = IsReached d l × AllDiverge d (l.path ∷ []) (paths_of ls) × AreScattered d ls
 
 -- `IsPending d ls n`: the document `d`, with `null` at the nodes `ls`, stands for `n`, which is what is left without
--- them.
+-- them
 pub record IsPending (d : NodeMap) (ls : List Later) (n : NodeMap) : Type 0 where
   pub removed : Patches d (removals ls) n
   pub scattered : AreScattered d ls
 
--- `IsWaitingAt ls i tokens`: `tokens` are the pointer of the node at index `i` of `ls`.
+-- `IsWaitingAt ls i tokens`: `tokens` are the pointer of the node at index `i` of `ls`
 abbrev pub IsWaitingAt : List Later → ℕ → List Text → Type 0
 IsWaitingAt ls i tokens = (i < length ls) × ((l : Later) → (slice_index_or ls i l).path ≡ tokens)
 
--- `TakesPlace n o tokens`: operation `o` adds a value at `tokens`. If it is one of `n`, its pointer diverges from them.
+-- `TakesPlace n o tokens`: operation `o` adds a value at `tokens`. If it is one of `n`, its pointer diverges from them
 abbrev pub TakesPlace : NodeMap → Operation → List Text → Type 0
 TakesPlace n (Add path value) tokens = path ≡ tokens
 TakesPlace n (Remove path) tokens = ⊥
@@ -88,7 +88,7 @@ TakesPlace n (Move from path) tokens = (path ≡ tokens) × Diverges n from toke
 TakesPlace n (Copy from path) tokens = (path ≡ tokens) × Diverges n from tokens
 TakesPlace n (Test path value) tokens = ⊥
 
--- `Frees k n o`: operation `o` adds a value at a node of `k`, a member of an object, and `n` is `k` without it.
+-- `Frees k n o`: operation `o` adds a value at a node of `k`, a member of an object, and `n` is `k` without it
 pub record Frees (k n : NodeMap) (o : Operation) : Type 0 where
   pub tokens : List Text
   pub value : NodeMap
@@ -96,7 +96,7 @@ pub record Frees (k n : NodeMap) (o : Operation) : Type 0 where
   pub object : HasObject k tokens
   pub place : TakesPlace k o tokens
 
--- `CanWait n o`: operation `o` removes or moves a member of an object of `n`, and the pointers of a move diverge.
+-- `CanWait n o`: operation `o` removes or moves a member of an object of `n`, and the pointers of a move diverge
 abbrev pub CanWait : NodeMap → Operation → Type 0
 CanWait n (Add path value) = ⊥
 CanWait n (Remove path) = HasObject n path
@@ -106,17 +106,17 @@ CanWait n (Copy from path) = ⊥
 CanWait n (Test path value) = ⊥
 
 -- `Blanks tokens t c d`: the value of `t` is the node of `c` that `tokens` name, `d` is `c` with `null` instead of it, and
--- the removal of `t` undoes that.
+-- the removal of `t` undoes that
 pub record Blanks (tokens : List Text) (t : Taken) (c d : Content) : Type 0 where
   pub blank : AtNamed tokens (ReplacesContent (contents_of t.value) (contents_of Null)) c d
   pub undone : IsRemoval t.removal (contents_of t.value) c d
 
 -- `IsSource r tokens c d`: `r` is the node of `c` that `tokens` name, which is `null` in `d`, or it is `None` and `d` is
--- `c`.
+-- `c`
 abbrev pub IsSource : Option Taken → List Text → Content → Content → Type 0
 IsSource r tokens c d = MatchOption r (d ≡ c) (λ t. Blanks tokens t c d)
 
--- `StandsFor k n o`: what operation `o` makes of `k` it makes of `n`, and it fails on `n` as on `k`.
+-- `StandsFor k n o`: what operation `o` makes of `k` it makes of `n`, and it fails on `n` as on `k`
 pub record StandsFor (k n : NodeMap) (o : Operation) : Type 0 where
   pub applied : (c : Comparison) (m : NodeMap) → AppliesBy c k o m → AppliesBy c n o m
   pub refused : (c : Comparison) (i : ℕ) (e : PatchError) → RefusesOperationBy c k i o e → RefusesOperationBy c n i o e

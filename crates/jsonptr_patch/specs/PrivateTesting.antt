@@ -14,69 +14,69 @@ use Rattle.jsonptr_patch.specs.declared.comparison.Comparison.TheVariants.{Stric
 use Rattle.jsonptr_patch.specs.declared.operation.PatchError.{PatchError}
 use Rattle.jsonptr_patch.specs.declared.operation.PatchError.TheVariants.{TestFloat, TestFailed}
 
--- `SameValueBy c v w`: the two values are equal for a test that compares as `c`.
+-- `SameValueBy c v w`: the two values are equal for a test that compares as `c`
 abbrev pub SameValueBy : Comparison → Value → Value → Type 0
 SameValueBy c v w = IsEqualBy c (nodes (view v)) (nodes (view w))
 
--- `SameValue v w`: the two values are equal for a strict test.
+-- `SameValue v w`: the two values are equal for a strict test
 abbrev pub SameValue : Value → Value → Type 0
 SameValue v w = SameValueBy Strict v w
 
--- `FloatIn v`: value `v` contains a float.
+-- `FloatIn v`: value `v` contains a float
 abbrev pub FloatIn : Value → Type 0
 FloatIn v = HasFloat (nodes (view v))
 
--- `FloatAmong vs`: one of the elements `vs` contains a float.
+-- `FloatAmong vs`: one of the elements `vs` contains a float
 abbrev pub FloatAmong : List Value → Type 0
 FloatAmong vs = (i : ℕ) × (x : Value) × (i < length vs) × FloatIn (slice_index_or vs i x)
 
 abbrev pub Object : Type 0
 Object = BTreeMap (String Global) Value
 
--- `FloatUnder m`: one of the members of `m` contains a float.
+-- `FloatUnder m`: one of the members of `m` contains a float
 abbrev pub FloatUnder : Object → Type 0
 FloatUnder m = (k : Text) × (v : Value) × (get_by_text m k ≡ Some v) × FloatIn v
 
--- `SameNumber n m`: both numbers are the same integer.
+-- `SameNumber n m`: both numbers are the same integer
 abbrev pub SameNumber : Num → Num → Type 0
 SameNumber n m = (z : ℤ) × (as_integer n ≡ Some z) × (as_integer m ≡ Some z)
 
--- `SameNumberBy c n m`: both numbers are equal for a test that compares as `c`.
+-- `SameNumberBy c n m`: both numbers are equal for a test that compares as `c`
 abbrev pub SameNumberBy : Comparison → Num → Num → Type 0
 SameNumberBy Strict n m = SameNumber n m
 SameNumberBy Numeric n m = NumericallyEqual n m
 
--- `SameElements c vs ws`: there are as many elements in `vs` as in `ws`, and they are equal.
+-- `SameElements c vs ws`: there are as many elements in `vs` as in `ws`, and they are equal
 abbrev pub SameElements : Comparison → List Value → List Value → Type 0
 SameElements c vs ws =
     (length vs ≡ length ws)
     × ((i : ℕ) (x : Value) → i < length vs
     → SameValueBy c (slice_index_or vs i x) (slice_index_or ws i x))
 
--- `SameMember c o p`: neither value exists, or they are equal.
+-- `SameMember c o p`: neither value exists, or they are equal
 abbrev pub SameMember : Comparison → Option Value → Option Value → Type 0
 SameMember c None None = ⊤
 SameMember c (Some v) (Some w) = SameValueBy c v w
 SameMember c o p = ⊥
 
--- `SameMembers c m n`: the objects have equal members under each key.
+-- `SameMembers c m n`: the objects have equal members under each key
 abbrev pub SameMembers : Comparison → Object → Object → Type 0
 SameMembers c m n = (k : Text) → SameMember c (get_by_text m k) (get_by_text n k)
 
--- `HasKeys m n`: `m` has a member under each key of `n`.
+-- `HasKeys m n`: `m` has a member under each key of `n`
 abbrev pub HasKeys : Object → Object → Type 0
 HasKeys m n = (k : Text) → IsSome (get_by_text n k) → IsSome (get_by_text m k)
 
--- `IsPlain v`: value `v` contains no float.
+-- `IsPlain v`: value `v` contains no float
 abbrev pub IsPlain : Value → Type 0
 IsPlain v = FloatIn v → ⊥
 
--- `RefusesCompare k v w e`: comparing `v` with `w` fails with `e`, for operation number `k`.
+-- `RefusesCompare k v w e`: comparing `v` with `w` fails with `e`, for operation number `k`
 abbrev pub RefusesCompare : ℕ → Value → Value → PatchError → Type 0
 RefusesCompare k v w e =
     ((e ≡ TestFloat k) × (FloatIn v ⊎ FloatIn w))
     ⊎ ((e ≡ TestFailed k) × IsPlain v × IsPlain w × (SameValue v w → ⊥))
 
--- `DiffersNumerically k v w e`: `v` and `w` are not numerically equal, and `e` reports that, for operation number `k`.
+-- `DiffersNumerically k v w e`: `v` and `w` are not numerically equal, and `e` reports that, for operation number `k`
 abbrev pub DiffersNumerically : ℕ → Value → Value → PatchError → Type 0
 DiffersNumerically k v w e = (e ≡ TestFailed k) × (SameValueBy Numeric v w → ⊥)

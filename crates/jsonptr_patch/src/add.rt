@@ -22,7 +22,7 @@ use jsonptr_journal::locate::locate;
 use jsonptr_value::discard;
 use jsonptr_walk::put::key_of;
 use serde_json::Value;
-use std::alloc::{AllocError, Global};
+use std::alloc::AllocError;
 
 /// Adds a value at the pointer, for the operation of this turn.
 ///
@@ -45,7 +45,7 @@ pub fn add(
         (RefusesAdd (nodes (view document.old)) turn.number (tokens path.entry)) }
     ensures undone { Records journal.old document.old journal.new document.new }
 {
-    let target = match place(turn, document, path) {
+    let target = match target_of(turn, document, path) {
         Ok(target) => target,
         Err(fault) => {
             discard(value);
@@ -75,7 +75,7 @@ pub fn add_last(
         (RefusesAdd (nodes (view document.old)) turn.number (tokens path.entry)) }
     ensures unchanged { OnErr result (view document.new ≡ view document.old) }
 {
-    let target = match place(turn, document, path) {
+    let target = match target_of(turn, document, path) {
         Ok(target) => target,
         Err(fault) => {
             discard(value);
@@ -97,7 +97,11 @@ pub fn add_last(
 /// # Errors
 ///
 /// [`Fault::Refused`] if nothing can be added there, and [`Fault::Memory`] if an allocation fails.
-pub fn place(turn: Turn, document: &Value, path: Pointer<'_>) -> Result<Target, Fault<PatchError>>
+pub fn target_of(
+    turn: Turn,
+    document: &Value,
+    path: Pointer<'_>,
+) -> Result<Target, Fault<PatchError>>
     ensures found { IfOk result (IsPlace (nodes (view document.now)) (tokens path.entry)) }
     ensures refused { IfRefused result
         (RefusesAdd (nodes (view document.now)) turn.number (tokens path.entry)) }
@@ -145,7 +149,7 @@ fn insertion_index(
     last: &Token<'_>,
     length: usize,
 ) -> Result<usize, assign::Error>
-    ensures place { IfOk result (MeansPlace length last.now) }
+    ensures index { IfOk result (MeansPlace length last.now) }
     ensures refused { IfErr result (λ e. (n : NodeMap) (w : Path)
         → Names n (tokens array.entry) w → n w ≡ Some (an_array length)
         → RefusesAssign n (tokens array.entry ++ last.now ∷ []) e) }

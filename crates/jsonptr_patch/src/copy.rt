@@ -15,7 +15,6 @@ use crate::turn::Turn;
 use jsonptr::{Fault, Pointer};
 use jsonptr_journal::journal::Journal;
 use serde_json::Value;
-use std::alloc::Global;
 
 /// Adds a copy of the value at `from` at `path`, for the operation of this turn.
 ///

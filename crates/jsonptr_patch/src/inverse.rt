@@ -11,7 +11,7 @@ ghost use Rattle.jsonptr_patch.specs.Apart.{Diverges, AllDiverge, pointers};
 ghost use Rattle.jsonptr_patch.specs.Inverse.{TakesAddBack, TakesBack, TakesMoveBack};
 ghost use Rattle.jsonptr_journal.specs.Changes.{IsThere, TakesAt};
 ghost use Rattle.jsonptr_journal.specs.Location.{path_of, contents_of};
-ghost use Rattle.jsonptr_patch.specs.Operating.{IsProperFront, AppliesBy, RefusesAdd, RefusesMove, RefusesTarget, RefusesOperationBy, RestoresAt};
+ghost use Rattle.jsonptr_patch.specs.Operating.{IsProperPrefix, AppliesBy, RefusesAdd, RefusesMove, RefusesTarget, RefusesOperationBy, RestoresAt};
 ghost use Rattle.jsonptr_patch.specs.Order.{OperationHasSortedKeys};
 ghost use Rattle.jsonptr_patch.specs.Patching.{Patches, PatchesBy, RefusesPatch, RefusesPatchBy};
 ghost use Rattle.jsonptr_patch.specs.PrivateInverse.{AppendsBack, TakesAllBackFrom, IsPlaceBack, StaySorted, RefusesChange};
@@ -21,11 +21,11 @@ ghost use Rattle.jsonptr_patch.specs.declared.comparison.Comparison.{Comparison 
 ghost use Rattle.jsonptr_patch.specs.declared.operation.Operation.{Operation as SpecOperation};
 ghost use Rattle.jsonptr_patch.specs.declared.operation.Operation.TheVariants as variant;
 
-use crate::add::place;
+use crate::add::target_of;
 use crate::comparison::Comparison;
 use crate::copy::copy_of;
 use crate::later::{diverges, make_apart, record_apart, take_place, unlink};
-use crate::move_value::is_proper_front;
+use crate::move_value::is_proper_prefix;
 use crate::operation::{Operation, PatchError};
 use crate::target::target;
 use crate::turn::{Run, Turn};
@@ -403,7 +403,7 @@ fn back_of_add(
     ensures refused { IfRefused result
         (RefusesAdd (nodes (view document.now)) turn.number (tokens path.entry)) }
 {
-    match place(turn, document, path)? {
+    match target_of(turn, document, path)? {
         Target::Root => Ok(Operation::Replace {
             path: path.to_buf(turn.alloc)?,
             value: jsonptr_value::copy(turn.alloc, document)?,
@@ -461,7 +461,7 @@ fn back_of_move(
         (tokens from.entry) (tokens path.entry)) }
     ensures unchanged { view document.new ≡ view document.old }
 {
-    if is_proper_front(from, path) {
+    if is_proper_prefix(from, path) {
         return Err(Fault::Refused(PatchError::MoveIntoSelf {
             operation: turn.number,
         }));
@@ -638,12 +638,12 @@ fn addition_at(
 /// The operation, if there is no such pointer.
 fn location_of(back: Operation, from: Pointer<'_>) -> Result<PointerBuf, Operation>
     ensures location { IfOk result (λ location.
-        (back ≡ variant.Remove location) × (IsProperFront location (tokens from.entry) → ⊥)) }
+        (back ≡ variant.Remove location) × (IsProperPrefix location (tokens from.entry) → ⊥)) }
     ensures returned { IfErr result (λ other. other ≡ back) }
 {
     match back {
         Operation::Remove { path: location } => {
-            if is_proper_front(location.as_ptr(), from) {
+            if is_proper_prefix(location.as_ptr(), from) {
                 return Err(Operation::Remove { path: location });
             }
             Ok(location)

@@ -30,9 +30,9 @@ use crate::turn::{Run, Turn};
 use jsonptr::{Fault, Pointer, PointerBuf, Token};
 use jsonptr_document::document::{Document, Node};
 use jsonptr_journal::addition::replace_at;
-use jsonptr_journal::journal::{Entry, Journal};
+use jsonptr_journal::journal::Entry;
 use jsonptr_journal::locate::locate;
-use jsonptr_journal::location::{Location, Part};
+use jsonptr_journal::location::{Location, LocationStep};
 use jsonptr_journal::removal::{self, Removal, Taken, blank, undo_removal};
 use jsonptr_walk::put::key_of;
 use serde_json::Value;
@@ -741,10 +741,10 @@ fn object_location(alloc: Global, document: &Value, pointer: Pointer<'_>) -> Opt
 fn below(alloc: Global, object: Location, last: &Token<'_>) -> Option<Location>
     ensures { IfSome result (λ here. path_of here ≡ path_of object ++ key last.now ∷ []) }
 {
-    let mut parts = object.parts;
+    let mut steps = object.steps;
     match key_of(alloc, last) {
-        Ok(name) => match parts.push(Part::Key(name)) {
-            Ok(()) => Some(Location { parts }),
+        Ok(name) => match steps.push(LocationStep::Key(name)) {
+            Ok(()) => Some(Location { steps }),
             Err(_) => None,
         },
         Err(_) => None,

@@ -67,7 +67,7 @@ pub use apart::are_apart;
 pub use comparison::Comparison;
 pub use equality::is_equal;
 pub use inverse::{apply_comparing_with_inverse, apply_with_inverse};
-pub use move_value::is_proper_front;
+pub use move_value::is_proper_prefix;
 pub use operation::{Operation, PatchError};
 pub use patch::{apply, apply_comparing};
 pub use undo::delete_with_undo;

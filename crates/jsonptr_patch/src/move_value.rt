@@ -9,11 +9,11 @@ ghost use Rattle.jsonptr_journal.specs.Journal.{IsEntryOf};
 ghost use Rattle.jsonptr_journal.specs.Undoing.{IsAddition};
 ghost use Rattle.jsonptr_patch.specs.Adding.{Adds};
 ghost use Rattle.jsonptr_patch.specs.Apart.{Diverges};
-ghost use Rattle.jsonptr_patch.specs.Operating.{Moves, IsProperFront, RefusesAdd, RefusesMove};
+ghost use Rattle.jsonptr_patch.specs.Operating.{Moves, IsProperPrefix, RefusesAdd, RefusesMove};
 ghost use Rattle.jsonptr_patch.specs.PrivateLater.{IsMemberAt};
 ghost use Rattle.jsonptr_patch.specs.PrivateRecording.{Records};
 
-use crate::add::place;
+use crate::add::target_of;
 use crate::later::moved_location;
 use crate::operation::PatchError;
 use crate::target::target;
@@ -25,7 +25,7 @@ use jsonptr_journal::location::Location;
 use jsonptr_journal::removal::{Removal, Taken, blank, remove, remove_last, undo_removal};
 use jsonptr_value::discard;
 use serde_json::Value;
-use std::alloc::{AllocError, AllocFailed, Global};
+use std::alloc::{AllocError, AllocFailed};
 
 /// Removes the value at `from` and adds it at `path`, for the operation of this turn.
 ///
@@ -161,7 +161,7 @@ fn moved(
         (tokens from.entry) (tokens path.entry)) }
     ensures unchanged { OnErr result (view document.new ≡ view document.old) }
 {
-    if is_proper_front(from, path) {
+    if is_proper_prefix(from, path) {
         return Err(Fault::Refused(PatchError::MoveIntoSelf {
             operation: turn.number,
         }));
@@ -226,7 +226,7 @@ pub fn add_taken(
         (RefusesAdd (nodes (view document.old)) turn.number (tokens path.entry))) }
     ensures unchanged { OnErr result (contents_of document.new ≡ contents_of document.old) }
 {
-    match place(turn, document, path) {
+    match target_of(turn, document, path) {
         Ok(target) => Ok(add(turn.alloc, document, target, value)?),
         Err(fault) => Err(AddError { value, fault }),
     }
@@ -252,27 +252,27 @@ fn add_taken_last(
         (RefusesAdd (nodes (view document.old)) turn.number (tokens path.entry))) }
     ensures unchanged { OnErr result (contents_of document.new ≡ contents_of document.old) }
 {
-    match place(turn, document, path) {
+    match target_of(turn, document, path) {
         Ok(target) => Ok(add_last(turn.alloc, document, target, value)?),
         Err(fault) => Err(AddError { value, fault }),
     }
 }
 
-/// Returns whether `front` is a proper prefix of `path`: a prefix with fewer tokens. Then nothing can be
-/// moved from `front` to `path` (RFC 6902, section 4.4).
+/// Returns whether `prefix` is a proper prefix of `path`: a prefix with fewer tokens. Then nothing can be
+/// moved from `prefix` to `path` (RFC 6902, section 4.4).
 ///
 /// Needs no allocation.
 ///
 /// # Examples
 ///
 /// ```rust
-/// assert!(rt; is_proper_front(Pointer::parse("/a")?, Pointer::parse("/a/b")?));
-/// assert!(rt; !is_proper_front(Pointer::parse("/a")?, Pointer::parse("/ab")?));
+/// assert!(rt; is_proper_prefix(Pointer::parse("/a")?, Pointer::parse("/a/b")?));
+/// assert!(rt; !is_proper_prefix(Pointer::parse("/a")?, Pointer::parse("/ab")?));
 /// ```
-pub fn is_proper_front(front: Pointer<'_>, path: Pointer<'_>) -> bool
-    ensures { IsTrue result ↔ IsProperFront (tokens front.entry) (tokens path.entry) }
+pub fn is_proper_prefix(prefix: Pointer<'_>, path: Pointer<'_>) -> bool
+    ensures { IsTrue result ↔ IsProperPrefix (tokens prefix.entry) (tokens path.entry) }
 {
-    match path.strip_prefix(front) {
+    match path.strip_prefix(prefix) {
         Some(rest) => !rest.is_root(),
         None => false,
     }

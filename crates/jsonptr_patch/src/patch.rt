@@ -34,12 +34,10 @@ use std::alloc::Global;
 /// one. If an operation fails, those before it are undone, which needs no allocation.
 ///
 /// An operation costs what it changes. A member that is removed from an object, also by a move, waits
-/// until the last operation has been applied, and is then removed. An operation is
-/// apart from it if each of its pointers diverges from that of the member at an object of the
-/// document. If a later operation is not, or if 1,024 members wait, all that wait are removed before it.
-/// That clones the keys of their objects, once for members of one object that follow one another. To
-/// undo it takes time in proportion to the objects. An addition to a member that waits replaces
-/// it instead.
+/// until the last operation has been applied, and is then removed. All that wait are removed earlier if
+/// there are 1,024, or if a later operation has a pointer that does not diverge from one of theirs at an
+/// object. That clones the keys of their objects, and undoing it takes time in proportion to these. An
+/// addition to a member that waits replaces it instead.
 ///
 /// Each pointer is compared with those of the members that wait. A removal from an array, and its
 /// undoing, take time in proportion to the array.

@@ -17,7 +17,6 @@ use jsonptr::{Fault, Pointer};
 use jsonptr_journal::journal::Journal;
 use jsonptr_journal::locate::resolve_error;
 use serde_json::Value;
-use std::alloc::Global;
 
 /// Removes the value that the pointer resolves to, for the operation of this turn. Removing the
 /// root leaves `null`.

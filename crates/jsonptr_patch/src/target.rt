@@ -7,7 +7,7 @@ ghost use Rattle.jsonptr.specs.Node.{Names};
 ghost use Rattle.jsonptr.specs.Pointer.{tokens};
 ghost use Rattle.jsonptr_journal.specs.Location.{path_of};
 ghost use Rattle.jsonptr_patch.specs.Operating.{RefusesTarget};
-ghost use Rattle.jsonptr_patch.specs.PrivateAdding.{told};
+ghost use Rattle.jsonptr_patch.specs.PrivateAdding.{patch_error_at};
 
 use crate::operation::PatchError;
 use crate::turn::Turn;
@@ -15,11 +15,10 @@ use jsonptr::{Fault, Pointer, resolve};
 use jsonptr_journal::locate::locate;
 use jsonptr_journal::location::Location;
 use serde_json::Value;
-use std::alloc::Global;
 
 /// Converts the fault of a pointer that does not resolve to that of the operation with this number.
 pub fn no_target(number: usize, fault: Fault<resolve::Error>) -> Fault<PatchError>
-    ensures { result ≡ told number fault }
+    ensures { result ≡ patch_error_at number fault }
 {
     fault.map(|cause| PatchError::NoTarget {
         operation: number,

@@ -17,7 +17,6 @@ use crate::target::no_target;
 use crate::turn::Turn;
 use jsonptr::{Fault, Pointer};
 use serde_json::Value;
-use std::alloc::Global;
 
 /// Tests that the value at `path` equals `value`, for the operation of this turn.
 ///

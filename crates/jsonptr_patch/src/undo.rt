@@ -42,14 +42,14 @@ pub fn delete_with_undo(
 ) -> Result<Option<Operation>, AllocError>
     ensures deleted { IfOk result (λ _. Deletes (nodes (view doc.old)) (tokens ptr.entry)
         (nodes null) (nodes (view doc.new))) }
-    ensures undo { IfOk result (λ undo. MatchOption undo
+    ensures restores { IfOk result (λ undo. MatchOption undo
         (NamesNothing (nodes (view doc.old)) (tokens ptr.entry) × (view doc.new ≡ view doc.old))
         (RestoresAt (nodes (view doc.old)) (tokens ptr.entry))) }
     ensures inverse { IfOk result (λ undo. IfSome undo (λ operation.
         Applies (nodes (view doc.new)) operation (nodes (view doc.old)))) }
     ensures sorted { IfOk result (λ _.
         HasSortedKeys (view doc.old) → HasSortedKeys (view doc.new)) }
-    ensures undo_has_sorted_keys { IfOk result (λ undo. IfSome undo (λ operation.
+    ensures inverse_sorted { IfOk result (λ undo. IfSome undo (λ operation.
         HasSortedKeys (view doc.old) → OperationHasSortedKeys operation)) }
     ensures unchanged { OnErr result (view doc.new ≡ view doc.old) }
 {

@@ -57,7 +57,7 @@ pub fn read_patch(
     };
     match first_error(entries) {
         Some(error) => Err(Fault::Refused(error)),
-        None => read_all(alloc, entries),
+        None => read_elements(alloc, entries),
     }
 }
 
@@ -80,7 +80,7 @@ fn first_error(entries: &Vec<Value>) -> Option<PatchDocumentError>
 /// # Errors
 ///
 /// Those of [`read_patch`].
-fn read_all(
+fn read_elements(
     alloc: Global,
     entries: &Vec<Value>,
 ) -> Result<Vec<Operation>, Fault<PatchDocumentError>>
@@ -92,7 +92,7 @@ fn read_all(
     let mut patch = Vec::new(alloc);
     for (operation, entry) in entries.iter().enumerate() {
         let read = read_operation(alloc, entry, operation)?;
-        keep(&mut patch, read)?;
+        append(&mut patch, read)?;
     }
     Ok(patch)
 }
@@ -118,10 +118,12 @@ fn read_operation(
 
 /// Appends an operation to the patch.
 ///
+/// A function of its own, so that the proof of the loop can name it.
+///
 /// # Errors
 ///
 /// [`AllocError`] if an allocation fails.
-fn keep(patch: &mut Vec<Operation>, operation: Operation) -> Result<(), AllocError>
+fn append(patch: &mut Vec<Operation>, operation: Operation) -> Result<(), AllocError>
     ensures { IfOk result (λ _. patch.new.items ≡ patch.old.items ++ operation ∷ []) }
 {
     patch.push(operation)?;

@@ -37,7 +37,7 @@ pub fn write_patch(alloc: Global, patch: &Vec<Operation>) -> Result<Value, Alloc
 {
     let mut objects = Vec::new(alloc);
     for operation in patch {
-        keep(&mut objects, write_operation(alloc, operation)?)?;
+        append(&mut objects, write_operation(alloc, operation)?)?;
     }
     Ok(Value::Array(objects))
 }
@@ -47,7 +47,7 @@ pub fn write_patch(alloc: Global, patch: &Vec<Operation>) -> Result<Value, Alloc
 /// # Errors
 ///
 /// [`AllocError`] if an allocation fails.
-fn keep(objects: &mut Vec<Value>, object: Value) -> Result<(), AllocError>
+fn append(objects: &mut Vec<Value>, object: Value) -> Result<(), AllocError>
     ensures { IfOk result (λ _. objects.new.items ≡ objects.old.items ++ object ∷ []) }
 {
     objects.push(object)?;

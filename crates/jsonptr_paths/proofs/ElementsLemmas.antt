@@ -14,7 +14,7 @@ use Rattle.jsonptr.proofs.Calling.{map_of-IsTree}
 use Rattle.jsonptr_value.specs.JsonText.{IsCompact}
 use Rattle.jsonptr_paths.specs.Listing.{emptied, IsLeaf, IsLineOf, IsShown, Lists}
 use Rattle.jsonptr_paths.specs.PrivateElements.{VisitsElements}
-use Rattle.jsonptr_paths.specs.PrivateWalking.{AddsPointers, Whole, Below, InFirst, VisitsAll, Walks, inside}
+use Rattle.jsonptr_paths.specs.PrivateWalking.{AddsPointers, AnyPath, NotRoot, InFirst, VisitsAll, WalksNodes, content_of}
 use Rattle.jsonptr_paths.specs.declared.listing.Listed.{Listed}
 use Rattle.jsonptr_paths.proofs.WalkingLemmas.{adds_part, adds_none, adds_same, adds_root, in_none, in_more, in_cases, in_before, in_below, below_in, walk_whole}
 use Rattle.jsonptr_paths.proofs.VisitingLemmas.{adds_later, visits_both, finds_child}
@@ -50,40 +50,40 @@ elements_none visits s = record {
 pub elements_more : {S : Type 0} (visits : S → List Text → Value → S → Type 0) (ds : List Data) (e : Value) (at : List Text) (s m t : S)
     → at ≡ dec (length ds) ∷ []
     → VisitsElements visits ds s m
-    → Walks inside visits e Whole at m t
+    → WalksNodes content_of visits e AnyPath at m t
     → VisitsElements visits (ds ++ view e ∷ []) s t
 elements_more {S} visits ds e at s m t leads a b = record {
   lists = a.lists ++ b.lists;
   adds = λ rest. subst (λ (i : ℕ). AddsPointers (nodes (array (with_items_before (ds ++ view e ∷ []) rest))) (InFirst i) [] [] (a.lists ++ b.lists)) (sym (length-append ds (view e ∷ [])))
       (subst (λ (es : Items). AddsPointers (nodes (array es)) (InFirst (length ds + 1)) [] [] (a.lists ++ b.lists)) (sym (one_more ds (view e) rest)) (adds rest));
-  visited = λ rest. subst (λ (es : Items). VisitsAll visits (λ ts u. FindsContent (content (array es)) ts (inside u)) (a.lists ++ b.lists) s t) (sym (one_more ds (view e) rest)) (visited rest);
+  visited = λ rest. subst (λ (es : Items). VisitsAll visits (λ ts u. FindsContent (content (array es)) ts (content_of u)) (a.lists ++ b.lists) s t) (sym (one_more ds (view e) rest)) (visited rest);
 }
   where
     all : Items → Items
     all rest = with_items_before ds (item (view e) rest)
 
-    there : (rest : Items) → content_at (place (length ds) ∷ []) (content (array (all rest))) ≡ Some (inside e)
+    there : (rest : Items) → content_at (place (length ds) ∷ []) (content (array (all rest))) ≡ Some (content_of e)
     there rest = rw (element_is ds (view e) rest)
 
     adds : (rest : Items) → AddsPointers (nodes (array (all rest))) (InFirst (length ds + 1)) [] [] (a.lists ++ b.lists)
-    adds rest = adds_part (nodes (array (all rest))) (map_of (inside e)) (InFirst (length ds)) (InFirst (length ds + 1)) [] (place (length ds)) [] a.lists (a.lists ++ b.lists)
+    adds rest = adds_part (nodes (array (all rest))) (map_of (content_of e)) (InFirst (length ds)) (InFirst (length ds + 1)) [] (place (length ds)) [] a.lists (a.lists ++ b.lists)
         (a.adds (item (view e) rest))
-        (adds_later (map_of (inside e)) Whole (dec (length ds) ∷ []) a.lists b.lists (subst (λ (ts : List Text). AddsPointers (map_of (inside e)) Whole ts [] b.lists) leads b.adds))
-        (map_of-sub (place (length ds) ∷ []) (content (array (all rest))) (inside e) (there rest))
+        (adds_later (map_of (content_of e)) AnyPath (dec (length ds) ∷ []) a.lists b.lists (subst (λ (ts : List Text). AddsPointers (map_of (content_of e)) AnyPath ts [] b.lists) leads b.adds))
+        (map_of-sub (place (length ds) ∷ []) (content (array (all rest))) (content_of e) (there rest))
         (in_more (length ds))
         (λ w. omega arith)
         (in_cases (length ds))
         (in_before (length ds))
 
-    found : (rest : Items) → FindsContent (content (array (all rest))) at (inside e)
-    found rest = subst (λ (ts : List Text). FindsContent (content (array (all rest))) ts (inside e)) (sym leads)
-        (finds_child (content (array (all rest))) (content (array (all rest))) (inside e) [] (dec (length ds)) (place (length ds))
+    found : (rest : Items) → FindsContent (content (array (all rest))) at (content_of e)
+    found rest = subst (λ (ts : List Text). FindsContent (content (array (all rest))) ts (content_of e)) (sym leads)
+        (finds_child (content (array (all rest))) (content (array (all rest))) (content_of e) [] (dec (length ds)) (place (length ds))
         (record { path = []; named = refl; there = refl })
         (inside_all ds (view e) rest, refl)
         (there rest))
 
-    visited : (rest : Items) → VisitsAll visits (λ ts u. FindsContent (content (array (all rest))) ts (inside u)) (a.lists ++ b.lists) s t
-    visited rest = visits_both visits (λ ts u. FindsContent (content (array (all rest))) ts (inside u)) a.lists b.lists s m t (a.visited (item (view e) rest)) (b.visited (content (array (all rest))) (found rest))
+    visited : (rest : Items) → VisitsAll visits (λ ts u. FindsContent (content (array (all rest))) ts (content_of u)) (a.lists ++ b.lists) s t
+    visited rest = visits_both visits (λ ts u. FindsContent (content (array (all rest))) ts (content_of u)) a.lists b.lists s m t (a.visited (item (view e) rest)) (b.visited (content (array (all rest))) (found rest))
 
 -- the lines of the array: what is shown for itself, and then for its elements
 pub elements_listed : {S : Type 0} (which : S → Listed) (out : S → Text) (ds : List Data) (s t : S)
@@ -94,8 +94,8 @@ elements_listed which out ds s t root a =
     let d : Data = array (with_items_before ds no_items) in
     let r = shows which out d a.lists s t (a.visited no_items) in
     let tree = map_of-IsTree (content d) in
-    let below : AddsPointers (nodes d) Below [] [] a.lists = adds_same (nodes d) (InFirst (length ds)) Below [] [] a.lists (a.adds no_items) (in_below (length ds)) (below_in (nodes d) (length ds) (length ds) tree (ap (λ (n : ℕ). Some (an_array n)) (len_is ds)) (omega arith)) in
-    let whole : AddsPointers (nodes d) Whole [] [] ([] ∷ a.lists) = adds_root (nodes d) [] [] ([] ∷ []) ([] ∷ a.lists) refl tree.root (adds_later (nodes d) Below [] ([] ∷ []) a.lists below) in
+    let below : AddsPointers (nodes d) NotRoot [] [] a.lists = adds_same (nodes d) (InFirst (length ds)) NotRoot [] [] a.lists (a.adds no_items) (in_below (length ds)) (below_in (nodes d) (length ds) (length ds) tree (ap (λ (n : ℕ). Some (an_array n)) (len_is ds)) (omega arith)) in
+    let whole : AddsPointers (nodes d) AnyPath [] [] ([] ∷ a.lists) = adds_root (nodes d) [] [] ([] ∷ []) ([] ∷ a.lists) refl tree.root (adds_later (nodes d) NotRoot [] ([] ∷ []) a.lists below) in
     ([] ∷ a.lists, walk_whole (nodes d) ([] ∷ a.lists) [] [] refl refl tree whole, (d, out s, r.0, record { path = []; named = refl; there = refl }, root, r.1, r.2))
 
 -- the array without elements

@@ -4,7 +4,7 @@ mod VisitingLemmas
 mod ListingLemmas
 mod ElementsLemmas
 mod TomlListingLemmas
-mod ReadingLemmas
+mod BuildingLemmas
 mod OrderLemmas
 mod RebuildingLemmas
 pub mod PlainLemmas

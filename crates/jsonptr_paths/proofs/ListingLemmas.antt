@@ -9,7 +9,7 @@ use Rattle.serde_json.proofs.Views.{Entry, view-Array, view-Object}
 use Rattle.jsonptr.specs.Text.{Text, text}
 use Rattle.jsonptr.specs.Content.{FindsContent}
 use Rattle.jsonptr.specs.Json.{content}
-use Rattle.jsonptr_paths.specs.PrivateWalking.{VisitsAll, Walks, Whole, inside}
+use Rattle.jsonptr_paths.specs.PrivateWalking.{VisitsAll, WalksNodes, AnyPath, content_of}
 use Rattle.jsonptr_paths.specs.Listing.{IsLeaf, IsField, IsShown, AreShown, Lists}
 use Rattle.jsonptr_paths.specs.PrivateListing.{IsLine}
 use Rattle.jsonptr_paths.specs.declared.listing.Listed.{Listed}
@@ -31,7 +31,7 @@ line_made p short o o1 o2 o3 o4 f tab value break = (f.0 ++ 9 ∷ (short ++ 10 �
 
 -- the lines that are appended at the visited nodes
 pub shows : {S : Type 0} (which : S → Listed) (out : S → Text) (d : Data) (lists : List (List Text)) (s t : S)
-    → VisitsAll (λ a ts (v : Value) b. (which b ≡ which a) × ((one : Text) × IsShown (which a) (text ts) (view v) one × (out b ≡ out a ++ one))) (λ ts u. FindsContent (content d) ts (inside u)) lists s t
+    → VisitsAll (λ a ts (v : Value) b. (which b ≡ which a) × ((one : Text) × IsShown (which a) (text ts) (view v) one × (out b ≡ out a ++ one))) (λ ts u. FindsContent (content d) ts (content_of u)) lists s t
     → (lines : Text) × AreShown (which s) d lists lines × (out t ≡ out s ++ lines)
 shows which out d [] s t h = ([], refl, ap out h ∙ sym (append-nil (out s)))
 shows which out d (ts ∷ lists) s t h =
@@ -42,10 +42,10 @@ shows which out d (ts ∷ lists) s t h =
 pub shows_all : {S : Type 0} (which : S → Listed) (out : S → Text) (v : Value) (root : List Text) (s t : S)
     → root ≡ []
     → out s ≡ []
-    → Walks inside (λ a ts u b. (which b ≡ which a) × ((one : Text) × IsShown (which a) (text ts) (view u) one × (out b ≡ out a ++ one))) v Whole root s t
+    → WalksNodes content_of (λ a ts u b. (which b ≡ which a) × ((one : Text) × IsShown (which a) (text ts) (view u) one × (out b ≡ out a ++ one))) v AnyPath root s t
     → Lists (which s) (view v) (out t)
 shows_all which out v root s t empty none a =
-    let r = walks_all inside (λ a ts u b. (which b ≡ which a) × ((one : Text) × IsShown (which a) (text ts) (view u) one × (out b ≡ out a ++ one))) v root s t empty a in
+    let r = walks_all content_of (λ a ts u b. (which b ≡ which a) × ((one : Text) × IsShown (which a) (text ts) (view u) one × (out b ≡ out a ++ one))) v root s t empty a in
     let shown = shows which out (view v) r.0 s t r.2 in
     let all : out t ≡ shown.0 = shown.2 ∙ ap (λ l. l ++ shown.0) none in
     (r.0, r.1, subst (AreShown (which s) (view v) r.0) (sym all) shown.1)

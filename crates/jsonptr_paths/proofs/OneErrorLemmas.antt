@@ -11,10 +11,10 @@ use Rattle.jsonptr.specs.Assigning.{Assigns}
 use Rattle.jsonptr.specs.declared.assign.Error.{Error}
 use Rattle.jsonptr.proofs.Calling.{text_one}
 use Rattle.jsonptr_io.proofs.LineLemmas.{one_lines}
-use Rattle.jsonptr_paths.specs.Reading.{CutsAt, ReadsField, ReadsLine, FitsDepth, AssignsLine, AssignsLines, Builds, IsLineError, StopsBuilding}
-use Rattle.jsonptr_paths.specs.declared.reading.LineError.{LineError}
-use Rattle.jsonptr_paths.specs.declared.reading.LineError.TheVariants.{NoTab, NotPointer, NotJson, TooDeep, Assign}
-use Rattle.jsonptr_paths.specs.declared.reading.BuildError.TheVariants.{Line}
+use Rattle.jsonptr_paths.specs.Building.{CutsAt, ReadsField, ReadsLine, FitsDepth, AssignsLine, AssignsLines, Builds, IsLineError, StopsBuilding}
+use Rattle.jsonptr_paths.specs.declared.build.LineError.{LineError}
+use Rattle.jsonptr_paths.specs.declared.build.LineError.TheVariants.{NoTab, NotPointer, NotJson, TooDeep, Assign}
+use Rattle.jsonptr_paths.specs.declared.build.BuildError.TheVariants.{Line}
 use Rattle.jsonptr_paths.proofs.PlainLemmas.{read_pointer}
 use Rattle.jsonptr_paths.proofs.RowLemmas.{cut_one, tab_there}
 

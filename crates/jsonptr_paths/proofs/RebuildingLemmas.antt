@@ -226,13 +226,13 @@ part_more n m v Seen p part next tree e = record {
     here : IsSome (made m p v p)
     here = subst IsSome (sym at) (root_some (n p) next.here)
 
-    through : (w : Path) → IsSome (made m p v w) → GoesThrough w p → w ≡ p
-    through w h c =
+    prefix : (w : Path) → IsSome (made m p v w) → GoesThrough w p → w ≡ p
+    prefix w h c =
         let below : IsSome (v c.0) = subst IsSome (put_behind (with_room m p) p v c.0) (subst (λ (u : Path). IsSome (made m p v u)) c.1 h) in
         c.1 ∙ ap (λ (r : Path). p ++ r) (emptied_root v (n p) c.0 e below) ∙ append-nil p
 
     seen_at : (w : Path) → IsSome (made m p v w) → GoesThrough w p ⊎ (rest_after p w ≡ None) → Seen w ⊎ (w ≡ p)
-    seen_at w h (inl c) = inr (through w h c)
+    seen_at w h (inl c) = inr (prefix w h c)
     seen_at w h (inr none) = inl (part.seen w (room-some (m w) (rest_after w p) (subst IsSome (put_none (with_room m p) p v w none) h)))
 
     apart : (w : Path) → IsSome (m w) → GoesThrough w p → ⊥
@@ -245,7 +245,7 @@ part_more n m v Seen p part next tree e = record {
     ]
 
     kinds_at : (w : Path) → IsSome (made m p v w) → GoesThrough w p ⊎ (rest_after p w ≡ None) → option_map kind (made m p v w) ≡ option_map kind (n w)
-    kinds_at w h (inl c) = subst (λ (u : Path). option_map kind (made m p v u) ≡ option_map kind (n u)) (sym (through w h c)) (ap (option_map kind) at ∙ kind_kind (n p))
+    kinds_at w h (inl c) = subst (λ (u : Path). option_map kind (made m p v u) ≡ option_map kind (n u)) (sym (prefix w h c)) (ap (option_map kind) at ∙ kind_kind (n p))
     kinds_at w h (inr none) =
         let other : made m p v w ≡ long_enough (rest_after w p) (m w) = put_none (with_room m p) p v w none in
         let some : IsSome (m w) = room-some (m w) (rest_after w p) (subst IsSome other h) in

@@ -22,12 +22,12 @@ use Rattle.jsonptr_io.proofs.LineLemmas.{one_lines}
 use Rattle.jsonptr_paths.specs.Walking.{Before, IsWalk}
 use Rattle.jsonptr_value.specs.JsonText.{IsCompact}
 use Rattle.jsonptr_paths.specs.Listing.{emptied, IsField, IsLineOf, AreShown, Lists}
-use Rattle.jsonptr_paths.specs.Reading.{CutsAt, ReadsField, ReadsLine, FitsDepth, AssignsLine, AssignsLines, Builds, IsLineError, StopsBuilding}
+use Rattle.jsonptr_paths.specs.Building.{CutsAt, ReadsField, ReadsLine, FitsDepth, AssignsLine, AssignsLines, Builds, IsLineError, StopsBuilding}
 use Rattle.jsonptr_paths.specs.PrivateRebuilding.{IsPart, IsNext, IsEmptied, Named, IsRow, AreRows}
 use Rattle.jsonptr_paths.specs.declared.listing.Listed.TheVariants.{AllNodes}
-use Rattle.jsonptr_paths.specs.declared.reading.LineError.{LineError}
-use Rattle.jsonptr_paths.specs.declared.reading.LineError.TheVariants.{NoTab, NotPointer, NotJson, TooDeep, Assign}
-use Rattle.jsonptr_paths.specs.declared.reading.BuildError.TheVariants.{Line}
+use Rattle.jsonptr_paths.specs.declared.build.LineError.{LineError}
+use Rattle.jsonptr_paths.specs.declared.build.LineError.TheVariants.{NoTab, NotPointer, NotJson, TooDeep, Assign}
+use Rattle.jsonptr_paths.specs.declared.build.BuildError.TheVariants.{Line}
 use Rattle.jsonptr_paths.proofs.OrderLemmas.{next_of, first_of_walk, no_walk, part_same, named_more, more_named, all_named}
 use Rattle.jsonptr_paths.proofs.RebuildingLemmas.{part_lands, assigned_next, assigned_root, whole_part}
 use Rattle.jsonptr_paths.proofs.PlainLemmas.{plain_quoted, plain_printed, read_quoted, read_pointer}

@@ -9,14 +9,14 @@ use Rattle.toml.proofs.Views.{Entry, view-Array, view-Table}
 use Rattle.jsonptr.specs.Text.{Text, text}
 use Rattle.jsonptr.specs.Content.{FindsContent}
 use Rattle.jsonptr.specs.TomlValue.{content}
-use Rattle.jsonptr_paths.specs.PrivateWalking.{VisitsAll, Walks, Whole, inside_toml}
+use Rattle.jsonptr_paths.specs.PrivateWalking.{VisitsAll, WalksNodes, AnyPath, content_of_toml}
 use Rattle.jsonptr_paths.specs.TomlListing.{IsTomlLeaf, IsTomlShown, AreTomlShown, ListsToml}
 use Rattle.jsonptr_paths.specs.declared.listing.Listed.{Listed}
 use Rattle.jsonptr_paths.proofs.VisitingLemmas.{walks_all}
 
 -- the lines that are appended at the visited nodes
 shows : {S : Type 0} (which : S → Listed) (out : S → Text) (d : Data) (lists : List (List Text)) (s t : S)
-    → VisitsAll (λ a ts (v : Value) b. (which b ≡ which a) × ((one : Text) × IsTomlShown (which a) (text ts) (view v) one × (out b ≡ out a ++ one))) (λ ts u. FindsContent (content d) ts (inside_toml u)) lists s t
+    → VisitsAll (λ a ts (v : Value) b. (which b ≡ which a) × ((one : Text) × IsTomlShown (which a) (text ts) (view v) one × (out b ≡ out a ++ one))) (λ ts u. FindsContent (content d) ts (content_of_toml u)) lists s t
     → (lines : Text) × AreTomlShown (which s) d lists lines × (out t ≡ out s ++ lines)
 shows which out d [] s t h = ([], refl, ap out h ∙ sym (append-nil (out s)))
 shows which out d (ts ∷ lists) s t h =
@@ -27,10 +27,10 @@ shows which out d (ts ∷ lists) s t h =
 pub shows_all : {S : Type 0} (which : S → Listed) (out : S → Text) (v : Value) (root : List Text) (s t : S)
     → root ≡ []
     → out s ≡ []
-    → Walks inside_toml (λ a ts u b. (which b ≡ which a) × ((one : Text) × IsTomlShown (which a) (text ts) (view u) one × (out b ≡ out a ++ one))) v Whole root s t
+    → WalksNodes content_of_toml (λ a ts u b. (which b ≡ which a) × ((one : Text) × IsTomlShown (which a) (text ts) (view u) one × (out b ≡ out a ++ one))) v AnyPath root s t
     → ListsToml (which s) (view v) (out t)
 shows_all which out v root s t empty none a =
-    let r = walks_all inside_toml (λ a ts u b. (which b ≡ which a) × ((one : Text) × IsTomlShown (which a) (text ts) (view u) one × (out b ≡ out a ++ one))) v root s t empty a in
+    let r = walks_all content_of_toml (λ a ts u b. (which b ≡ which a) × ((one : Text) × IsTomlShown (which a) (text ts) (view u) one × (out b ≡ out a ++ one))) v root s t empty a in
     let shown = shows which out (view v) r.0 s t r.2 in
     let all : out t ≡ shown.0 = shown.2 ∙ ap (λ l. l ++ shown.0) none in
     (r.0, r.1, subst (AreTomlShown (which s) (view v) r.0) (sym all) shown.1)

@@ -16,7 +16,7 @@ use Rattle.jsonptr.specs.Text.{Text}
 use Rattle.jsonptr.specs.Node.{Step, key, place, Path, Label, an_object, an_array, a_leaf, NodeMap, sub, NamesStep, Names, MayHave, IsTree}
 use Rattle.jsonptr.proofs.Calling.{map_of-IsTree, Names-here, Names_one_path, IsTree-above, IsTree-named}
 use Rattle.jsonptr_paths.specs.Walking.{ChildBefore, Before, IsWalk}
-use Rattle.jsonptr_paths.specs.PrivateWalking.{token_of, tokens_to, Among, Ascends, AddsPointers, Whole, Below, InFirst}
+use Rattle.jsonptr_paths.specs.PrivateWalking.{token_of, tokens_to, Among, Ascends, AddsPointers, AnyPath, NotRoot, InFirst}
 
 -- elements of lists
 
@@ -103,30 +103,30 @@ ascends_below s (w ∷ ws) a =
 
 -- what one part appends after others
 
-longer : (through : List Text) (s : Step) (ws : List Path) → map (λ w. (through ++ token_of s ∷ []) ++ tokens_to w) ws ≡ map (λ w. through ++ tokens_to w) (map (λ w. s ∷ w) ws)
-longer through s [] = refl
-longer through s (w ∷ ws) = cong2 (append_assoc through (token_of s ∷ []) (tokens_to w)) (longer through s ws)
+longer : (prefix : List Text) (s : Step) (ws : List Path) → map (λ w. (prefix ++ token_of s ∷ []) ++ tokens_to w) ws ≡ map (λ w. prefix ++ tokens_to w) (map (λ w. s ∷ w) ws)
+longer prefix s [] = refl
+longer prefix s (w ∷ ws) = cong2 (append_assoc prefix (token_of s ∷ []) (tokens_to w)) (longer prefix s ws)
   where
     cong2 : {a b : List Text} {xs ys : List (List Text)} → a ≡ b → xs ≡ ys → a ∷ xs ≡ b ∷ ys
     cong2 e f = cc
 
-pub adds_part : (n m : NodeMap) (P Q : Path → Type 0) (through : List Text) (s : Step) (old mid new : List (List Text))
-    → AddsPointers n P through old mid
-    → AddsPointers m Whole (through ++ token_of s ∷ []) mid new
+pub adds_part : (n m : NodeMap) (P Q : Path → Type 0) (prefix : List Text) (s : Step) (old mid new : List (List Text))
+    → AddsPointers n P prefix old mid
+    → AddsPointers m AnyPath (prefix ++ token_of s ∷ []) mid new
     → m ≡ sub n (s ∷ [])
     → ((w : Path) → P w → Q w)
     → ((w : Path) → Q (s ∷ w))
     → ((w : Path) → Q w → P w ⊎ ((u : Path) × (w ≡ s ∷ u)))
     → ((w u : Path) → P w → Before w (s ∷ u))
-    → AddsPointers n Q through old new
-adds_part n m P Q through s old mid new a b is weaker here cases before = record {
+    → AddsPointers n Q prefix old new
+adds_part n m P Q prefix s old mid new a b is weaker here cases before = record {
   paths = a.paths ++ map (λ w. s ∷ w) b.paths;
   listed =
       b.listed
-      ∙ ap (λ l. l ++ map (λ w. (through ++ token_of s ∷ []) ++ tokens_to w) b.paths) a.listed
-      ∙ append_assoc old (map (λ w. through ++ tokens_to w) a.paths) (map (λ w. (through ++ token_of s ∷ []) ++ tokens_to w) b.paths)
-      ∙ ap (λ l. old ++ (map (λ w. through ++ tokens_to w) a.paths ++ l)) (longer through s b.paths)
-      ∙ ap (λ l. old ++ l) (sym (map-append (λ w. through ++ tokens_to w) a.paths (map (λ w. s ∷ w) b.paths)));
+      ∙ ap (λ l. l ++ map (λ w. (prefix ++ token_of s ∷ []) ++ tokens_to w) b.paths) a.listed
+      ∙ append_assoc old (map (λ w. prefix ++ tokens_to w) a.paths) (map (λ w. (prefix ++ token_of s ∷ []) ++ tokens_to w) b.paths)
+      ∙ ap (λ l. old ++ (map (λ w. prefix ++ tokens_to w) a.paths ++ l)) (longer prefix s b.paths)
+      ∙ ap (λ l. old ++ l) (sym (map-append (λ w. prefix ++ tokens_to w) a.paths (map (λ w. s ∷ w) b.paths)));
   there = λ w h. elim (among_cases a.paths (map (λ u. s ∷ u) b.paths) w h) [
     | inl l ↦ let r = a.there w l in (weaker w r.0, r.1)
     | inr r ↦ part w r
@@ -151,8 +151,8 @@ adds_part n m P Q through s old mid new a b is weaker here cases before = record
         subst (λ (v : Path). Among (map (λ x. s ∷ x) b.paths) v) (sym e) (among_map (λ v. s ∷ v) b.paths u (b.all u tt below))
 
 -- nothing yet
-pub adds_none : (n : NodeMap) (P : Path → Type 0) (through : List Text) (old : List (List Text)) → ((w : Path) → P w → IsSome (n w) → ⊥) → AddsPointers n P through old old
-adds_none n P through old none = record {
+pub adds_none : (n : NodeMap) (P : Path → Type 0) (prefix : List Text) (old : List (List Text)) → ((w : Path) → P w → IsSome (n w) → ⊥) → AddsPointers n P prefix old old
+adds_none n P prefix old none = record {
   paths = [];
   listed = sym (append-nil old);
   there = λ w h. absurd h;
@@ -161,8 +161,8 @@ adds_none n P through old none = record {
 }
 
 -- the same for paths that have one property exactly if they have the other
-pub adds_same : (n : NodeMap) (P Q : Path → Type 0) (through : List Text) (old new : List (List Text)) → AddsPointers n P through old new → ((w : Path) → P w → Q w) → ((w : Path) → Q w → IsSome (n w) → P w) → AddsPointers n Q through old new
-adds_same n P Q through old new a weaker stronger = record {
+pub adds_same : (n : NodeMap) (P Q : Path → Type 0) (prefix : List Text) (old new : List (List Text)) → AddsPointers n P prefix old new → ((w : Path) → P w → Q w) → ((w : Path) → Q w → IsSome (n w) → P w) → AddsPointers n Q prefix old new
+adds_same n P Q prefix old new a weaker stronger = record {
   paths = a.paths;
   listed = a.listed;
   there = λ w h. (weaker w (a.there w h).0, (a.there w h).1);
@@ -171,14 +171,14 @@ adds_same n P Q through old new a weaker stronger = record {
 }
 
 -- the root, and then all below it
-pub adds_root : (n : NodeMap) (through : List Text) (old mid new : List (List Text)) → mid ≡ old ++ through ∷ [] → IsSome (n []) → AddsPointers n Below through mid new → AddsPointers n Whole through old new
-adds_root n through old mid new pushed root a = record {
+pub adds_root : (n : NodeMap) (prefix : List Text) (old mid new : List (List Text)) → mid ≡ old ++ prefix ∷ [] → IsSome (n []) → AddsPointers n NotRoot prefix mid new → AddsPointers n AnyPath prefix old new
+adds_root n prefix old mid new pushed root a = record {
   paths = [] ∷ a.paths;
   listed =
       a.listed
-      ∙ ap (λ l. l ++ map (λ w. through ++ tokens_to w) a.paths) pushed
-      ∙ append_assoc old (through ∷ []) (map (λ w. through ++ tokens_to w) a.paths)
-      ∙ ap (λ (l : List Text). old ++ (l ∷ map (λ w. through ++ tokens_to w) a.paths)) (sym (append-nil through));
+      ∙ ap (λ l. l ++ map (λ w. prefix ++ tokens_to w) a.paths) pushed
+      ∙ append_assoc old (prefix ∷ []) (map (λ w. prefix ++ tokens_to w) a.paths)
+      ∙ ap (λ (l : List Text). old ++ (l ∷ map (λ w. prefix ++ tokens_to w) a.paths)) (sym (append-nil prefix));
   there = λ w h. (
     tt,
     elim h [
@@ -190,7 +190,7 @@ adds_root n through old mid new pushed root a = record {
   order = (first, a.order);
 }
   where
-    whole : (w : Path) → Whole w → IsSome (n w) → Among ([] ∷ a.paths) w
+    whole : (w : Path) → AnyPath w → IsSome (n w) → Among ([] ∷ a.paths) w
     whole [] p some = inl refl
     whole (s ∷ w) p some = inr (a.all (s ∷ w) tt some)
 
@@ -199,7 +199,7 @@ adds_root n through old mid new pushed root a = record {
     first (s ∷ v) h = tt
 
 -- nothing is below a scalar
-pub leaf_below : (n : NodeMap) (v : _) → IsTree n → n [] ≡ Some (a_leaf v) → (w : Path) → Below w → IsSome (n w) → ⊥
+pub leaf_below : (n : NodeMap) (v : _) → IsTree n → n [] ≡ Some (a_leaf v) → (w : Path) → NotRoot w → IsSome (n w) → ⊥
 leaf_below n v tree leaf [] p some = p
 leaf_below n v tree leaf (s ∷ w) p some = subst (λ (o : Option Label). MayHave o s) leaf (tree.parent [] s (IsTree-above n tree (s ∷ []) w some))
 
@@ -228,12 +228,12 @@ in_before i [] u p = tt
 in_before i (key k ∷ w) u p = absurd p
 in_before i (place j ∷ w) u p = inl p
 
-pub in_below : (i : ℕ) (w : Path) → InFirst i w → Below w
+pub in_below : (i : ℕ) (w : Path) → InFirst i w → NotRoot w
 in_below i [] p = p
 in_below i (s ∷ w) p = tt
 
 -- each path below an array leads through one of its elements
-pub below_in : (n : NodeMap) (len i : ℕ) → IsTree n → n [] ≡ Some (an_array len) → len ≤ i → (w : Path) → Below w → IsSome (n w) → InFirst i w
+pub below_in : (n : NodeMap) (len i : ℕ) → IsTree n → n [] ≡ Some (an_array len) → len ≤ i → (w : Path) → NotRoot w → IsSome (n w) → InFirst i w
 below_in n len i tree label long [] p some = p
 below_in n len i tree label long (s ∷ w) p some = inside s w (subst (λ (o : Option Label). MayHave o s) label (tree.parent [] s (IsTree-above n tree (s ∷ []) w some)))
   where
@@ -317,7 +317,7 @@ under_before done e more sorted [] u p = tt
 under_before done e more sorted (key k ∷ w) u p = inl (key_before done e more sorted k p)
 under_before done e more sorted (place j ∷ w) u p = absurd p
 
-pub under_below : {V : Type 0} (es : List (EntryOf V)) (w : Path) → Under es w → Below w
+pub under_below : {V : Type 0} (es : List (EntryOf V)) (w : Path) → Under es w → NotRoot w
 under_below es [] p = p
 under_below es (s ∷ w) p = tt
 
@@ -345,20 +345,20 @@ found_key {V} (e ∷ es) k h = by_test (found_key es k) (is_eq (slice_cmp nat_cm
     by_test later true is some = inl ((bytes_eq-Decides k (string_bytes e.0)).0 (sym (is_eq-slice_cmp k (string_bytes e.0)) ∙ is))
     by_test later false is some = inr (later some)
 
-some_there : {V : Type 0} (inside : V → Content) (o : Option V) (c : Option Content) → c ≡ option_map inside o → IsSome (option_map label_of c) → IsSome o
-some_there inside None c e h = absurd (true≢false (sym (subst (λ (x : Option Content). IsSome (option_map label_of x)) e h)))
-some_there inside (Some v) c e h = refl
+some_there : {V : Type 0} (content_of : V → Content) (o : Option V) (c : Option Content) → c ≡ option_map content_of o → IsSome (option_map label_of c) → IsSome o
+some_there content_of None c e h = absurd (true≢false (sym (subst (λ (x : Option Content). IsSome (option_map label_of x)) e h)))
+some_there content_of (Some v) c e h = refl
 
 -- each path below an object leads through one of its members
-pub below_under : {V : Type 0} (inside : V → Content) (c : Content) (m : BTreeMap (String Global) V) → map_of c [] ≡ Some an_object → ((k : List ℕ) → content_at (key k ∷ []) c ≡ option_map inside (get_by_text m k)) → (w : Path) → Below w → IsSome (map_of c w) → Under m.entries w
-below_under inside c m label law [] p some = p
-below_under {V} inside c m label law (s ∷ w) p some =
+pub below_under : {V : Type 0} (content_of : V → Content) (c : Content) (m : BTreeMap (String Global) V) → map_of c [] ≡ Some an_object → ((k : List ℕ) → content_at (key k ∷ []) c ≡ option_map content_of (get_by_text m k)) → (w : Path) → NotRoot w → IsSome (map_of c w) → Under m.entries w
+below_under content_of c m label law [] p some = p
+below_under {V} content_of c m label law (s ∷ w) p some =
     let tree = map_of-IsTree c in
     let one = IsTree-above (map_of c) tree (s ∷ []) w some in
     under s w (subst (λ (o : Option Label). MayHave o s) label (tree.parent [] s one)) one
   where
     under : (s : Step) (w : Path) → MayHave (Some an_object) s → IsSome (map_of c (s ∷ [])) → Under m.entries (s ∷ w)
-    under (key k) w h there = found_key m.entries k (some_there inside (get_by_text m k) (content_at (key k ∷ []) c) (law k) there)
+    under (key k) w h there = found_key m.entries k (some_there content_of (get_by_text m k) (content_at (key k ∷ []) c) (law k) there)
     under (place j) w h there = h
 
 -- the whole walk
@@ -398,8 +398,8 @@ ordered (w ∷ ws) (x ∷ above) below ts us a e h =
     let r = ordered ws above below ts us a.1 tail h in
     (r.0, r.1, inr r.2, inr r.3, r.4, r.5, r.6)
 
-pub walk_whole : (n : NodeMap) (lists : List (List Text)) (through : List Text) (none : List (List Text)) → through ≡ [] → none ≡ [] → IsTree n → AddsPointers n Whole through none lists → IsWalk n lists
-walk_whole n lists through none root empty tree a = record {
+pub walk_whole : (n : NodeMap) (lists : List (List Text)) (prefix : List Text) (none : List (List Text)) → prefix ≡ [] → none ≡ [] → IsTree n → AddsPointers n AnyPath prefix none lists → IsWalk n lists
+walk_whole n lists prefix none root empty tree a = record {
   nodes = λ ts. (λ h. one ts (contains_among lists ts h), λ h. two ts h.0 h.1);
   once = λ above below ts e h.
       let r = ordered a.paths above below ts ts a.order (sym listed ∙ e) (contains_among below ts h) in
@@ -413,7 +413,7 @@ walk_whole n lists through none root empty tree a = record {
 }
   where
     listed : lists ≡ map tokens_to a.paths
-    listed = a.listed ∙ ap (λ l. l ++ map (λ w. through ++ tokens_to w) a.paths) empty ∙ ap (λ (l : List Text). map (λ w. l ++ tokens_to w) a.paths) root
+    listed = a.listed ∙ ap (λ l. l ++ map (λ w. prefix ++ tokens_to w) a.paths) empty ∙ ap (λ (l : List Text). map (λ w. l ++ tokens_to w) a.paths) root
 
     path_of : (w : Path) (ts : List Text) → Among a.paths w → ts ≡ tokens_to w → Names n ts w
     path_of w ts h e = subst (λ (us : List Text). Names n us w) (sym e) (named_by_steps n tree w (a.there w h).1)

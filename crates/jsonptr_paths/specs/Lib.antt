@@ -2,9 +2,9 @@
 pub mod Walking
 pub mod Listing
 pub mod TomlListing
-pub mod Reading
+pub mod Building
 pub mod PrivateWalking
 pub mod PrivateListing
 pub mod PrivateElements
-pub mod PrivateReading
+pub mod PrivateBuilding
 pub mod PrivateRebuilding

@@ -7,7 +7,7 @@ use Rattle.jsonptr.specs.Text.{Text}
 use Rattle.jsonptr.specs.Node.{Step, key, place, Path, NodeMap, Names}
 
 -- `ChildBefore s t`: of two children of one node, the one at step `s` comes first. Elements are in the order of their
--- indices, and members in the order of the bytes of their keys.
+-- indices, and members in the order of the bytes of their keys
 abbrev pub ChildBefore : Step → Step → Type 0
 ChildBefore (key k) (key l) = slice_cmp nat_cmp k l ≡ Less
 ChildBefore (key k) (place j) = ⊥
@@ -15,14 +15,14 @@ ChildBefore (place i) (key l) = ⊥
 ChildBefore (place i) (place j) = i < j
 
 -- `Before p q`: path `p` is before `q` in document order. A node comes before all nodes below it, and the nodes of
--- one child before those of the next.
+-- one child before those of the next
 abbrev pub Before : Path → Path → Type 0
 Before [] [] = ⊥
 Before [] (t ∷ q) = ⊤
 Before (s ∷ p) [] = ⊥
 Before (s ∷ p) (t ∷ q) = ChildBefore s t ⊎ ((s ≡ t) × Before p q)
 
--- `IsWalk n lists`: the lists of tokens are those of the nodes of `n`, each once, in document order.
+-- `IsWalk n lists`: the lists of tokens are those of the nodes of `n`, each once, in document order
 pub record IsWalk (n : NodeMap) (lists : List (List Text)) : Type 0 where
   pub nodes : (ts : List Text) → Contains lists ts ↔ ((w : Path) × Names n ts w)
   pub once : (above below : List (List Text)) (ts : List Text)

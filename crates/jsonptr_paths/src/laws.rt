@@ -7,10 +7,10 @@ ghost use Rattle.jsonptr.specs.Node.{NodeMap};
 ghost use Rattle.jsonptr.specs.Text.{Text};
 ghost use Rattle.jsonptr_io.specs.Lines.{IsOneLine};
 ghost use Rattle.jsonptr_paths.specs.Listing.{IsLineOf, Lists};
-ghost use Rattle.jsonptr_paths.specs.Reading.{Builds, IsLineError, StopsBuilding};
+ghost use Rattle.jsonptr_paths.specs.Building.{Builds, IsLineError, StopsBuilding};
 ghost use Rattle.jsonptr_paths.specs.declared.listing.Listed.TheVariants.{AllNodes};
-ghost use Rattle.jsonptr_paths.specs.declared.reading.LineError.{LineError};
-ghost use Rattle.jsonptr_paths.specs.declared.reading.BuildError.TheVariants.{Line};
+ghost use Rattle.jsonptr_paths.specs.declared.build.LineError.{LineError};
+ghost use Rattle.jsonptr_paths.specs.declared.build.BuildError.TheVariants.{Line};
 
 use jsonptr_laws::assign::assign_law;
 

@@ -4,7 +4,7 @@
 //! - [`listing`]: the lines of a document.
 //! - [`text_listing`]: the lines of the document of a JSON text.
 //! - [`toml_listing`]: the lines of a TOML document.
-//! - [`reading`]: the document that lines build.
+//! - [`build`]: the document that lines build.
 //!
 //! A line is a JSON Pointer (RFC 6901), a tab, and a JSON text without white space (RFC 8259):
 //!
@@ -18,13 +18,13 @@
 //!                              /b⟶{}         /b⟶{}
 //! ```
 //!
-//! An array or object with children has its line as an empty one, so the lines are linear in the
-//! document, and lines of all nodes can be read back one by one.
+//! An array or object with children has its line as an empty one, so each value is printed once, and
+//! lines of all nodes can be read back one by one. Each line has its whole pointer.
 #![tactic(auto)]
 
+pub mod build;
 pub mod laws;
 pub mod listing;
-pub mod reading;
 pub mod text_listing;
 pub mod toml_listing;
 mod toml_walk;

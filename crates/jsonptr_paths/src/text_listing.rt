@@ -11,7 +11,7 @@ ghost use Rattle.jsonptr_value.specs.Reading.{IsReadError};
 ghost use Rattle.jsonptr_value.specs.declared.from_text.ReadError.TheVariants.{NotJson};
 ghost use Rattle.jsonptr_paths.specs.Listing.{IsShown, Lists};
 ghost use Rattle.jsonptr_paths.specs.PrivateElements.{VisitsElements};
-ghost use Rattle.jsonptr_paths.specs.PrivateWalking.{Walks, Whole, inside};
+ghost use Rattle.jsonptr_paths.specs.PrivateWalking.{WalksNodes, AnyPath, content_of};
 
 use crate::listing::{Listed, Lister, list, push_value};
 use crate::walk::{Visitor, visit_nodes};
@@ -142,7 +142,7 @@ fn visit_next<T: Visitor<Value>>(
     visitor: &mut T,
 ) -> Result<(), ReadError>
     ensures listed { IfOk result (λ _. (v : Value) × ReadsTokens (max_depth - 1) reader.old (view v) reader.new
-        × Walks inside T.visits v Whole (dec at ∷ []) visitor.old visitor.new) }
+        × WalksNodes content_of T.visits v AnyPath (dec at ∷ []) visitor.old visitor.new) }
     ensures shorter { OnOk result (length reader.new < length reader.old) }
     ensures refused { result ≡ Err NotJson → Unreadable (max_depth - 1) reader.old }
 {

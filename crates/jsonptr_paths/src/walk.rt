@@ -6,7 +6,7 @@ ghost use Rattle.jsonptr.specs.Json.{nodes};
 ghost use Rattle.jsonptr.specs.Pointer.{tokens};
 ghost use Rattle.jsonptr.specs.Text.{Text};
 ghost use Rattle.jsonptr_paths.specs.Walking.{IsWalk};
-ghost use Rattle.jsonptr_paths.specs.PrivateWalking.{Walks, Whole, Below, inside};
+ghost use Rattle.jsonptr_paths.specs.PrivateWalking.{WalksNodes, AnyPath, NotRoot, content_of};
 
 use jsonptr::tree::json::json_law;
 use jsonptr::{Pointer, PointerBuf, Token};
@@ -68,28 +68,28 @@ pub fn pointers(alloc: Global, document: &Value) -> Result<Vec<PointerBuf>, Allo
     Ok(found)
 }
 
-/// Visits all nodes of the value at `through`, in document order.
+/// Visits all nodes of the value at `pointer`, in document order.
 ///
 /// Holds no more memory than the visitor, and a pointer for each level of the value.
 #[cycle(walk)]
 pub(crate) fn visit_nodes<T: Visitor<Value>>(
     alloc: Global,
     value: &Value,
-    through: Pointer<'_>,
+    pointer: Pointer<'_>,
     visitor: &mut T,
 ) -> Result<(), AllocError>
-    ensures { IfOk result (λ _. Walks inside T.visits value.now Whole (tokens through.entry)
-        visitor.old visitor.new) }
+    ensures { IfOk result (λ _. WalksNodes content_of T.visits value.now AnyPath
+        (tokens pointer.entry) visitor.old visitor.new) }
 {
     json_law();
-    visitor.visit(through, value)?;
+    visitor.visit(pointer, value)?;
     match value {
         Value::Null => Ok(()),
         Value::Bool(_) => Ok(()),
         Value::Number(_) => Ok(()),
         Value::String(_) => Ok(()),
-        Value::Array(elements) => visit_elements(alloc, elements, through, visitor),
-        Value::Object(members) => visit_members(alloc, members, through, visitor),
+        Value::Array(elements) => visit_elements(alloc, elements, pointer, visitor),
+        Value::Object(members) => visit_members(alloc, members, pointer, visitor),
     }
 }
 
@@ -98,16 +98,16 @@ pub(crate) fn visit_nodes<T: Visitor<Value>>(
 fn visit_elements<T: Visitor<Value>>(
     alloc: Global,
     elements: &Vec<Value>,
-    through: Pointer<'_>,
+    pointer: Pointer<'_>,
     visitor: &mut T,
 ) -> Result<(), AllocError>
-    ensures { IfOk result (λ _. Walks inside T.visits (Array elements.now) Below
-        (tokens through.entry) visitor.old visitor.new) }
+    ensures { IfOk result (λ _. WalksNodes content_of T.visits (Array elements.now) NotRoot
+        (tokens pointer.entry) visitor.old visitor.new) }
 {
     json_law();
     for (index, element) in elements.iter().enumerate() {
         let token = Token::from_number(alloc, index)?;
-        let child = through.with_trailing_token(alloc, token)?;
+        let child = pointer.with_trailing_token(alloc, token)?;
         visit_nodes(alloc, element, child.as_ptr(), visitor)?;
     }
     Ok(())
@@ -118,16 +118,16 @@ fn visit_elements<T: Visitor<Value>>(
 fn visit_members<T: Visitor<Value>>(
     alloc: Global,
     members: &Map<String, Value>,
-    through: Pointer<'_>,
+    pointer: Pointer<'_>,
     visitor: &mut T,
 ) -> Result<(), AllocError>
-    ensures { IfOk result (λ _. Walks inside T.visits (Object members.now) Below
-        (tokens through.entry) visitor.old visitor.new) }
+    ensures { IfOk result (λ _. WalksNodes content_of T.visits (Object members.now) NotRoot
+        (tokens pointer.entry) visitor.old visitor.new) }
 {
     json_law();
     for (key, member) in members.iter() {
         let token = Token::new(alloc, CowStr::Borrowed(key.as_str()))?;
-        let child = through.with_trailing_token(alloc, token)?;
+        let child = pointer.with_trailing_token(alloc, token)?;
         visit_nodes(alloc, member, child.as_ptr(), visitor)?;
     }
     Ok(())

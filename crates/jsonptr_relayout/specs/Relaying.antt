@@ -2,9 +2,9 @@
 use Rattle.std.specs.Prelude.{◌≡◌, ◌⊎◌, ◌<◌, Some, None, alloc_error, string_bytes}
 use Rattle.serde_json.specs.Data.{Data, depth}
 use Rattle.serde_json.specs.Read.{read, max_depth}
-use Rattle.jsonptr_grammar.specs.Text.{Text}
-use Rattle.jsonptr_tree.specs.Json.{nodes}
-use Rattle.jsonptr_tree.specs.Node.{NodeMap}
+use Rattle.jsonptr.specs.Text.{Text}
+use Rattle.jsonptr.specs.Json.{nodes}
+use Rattle.jsonptr.specs.Node.{NodeMap}
 use Rattle.jsonptr_relayout.specs.declared.relaid.Relaid.{Relaid}
 use Rattle.jsonptr_relayout.specs.declared.relaid.Relaid.TheVariants.{Kept, Rewritten}
 use Rattle.jsonptr_relayout.specs.declared.relaid.RelayoutError.{RelayoutError}

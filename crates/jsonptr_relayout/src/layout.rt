@@ -3,7 +3,7 @@ ghost use Rattle.std.specs.Prelude.{◌≡◌, Some, IfOk, IfErr, IfSome, option
 ghost use Rattle.serde_json.specs.Data.{Data};
 ghost use Rattle.serde_json.specs.Read.{read};
 ghost use Rattle.serde_json.specs.View.{view};
-ghost use Rattle.jsonptr_tree.specs.Json.{nodes};
+ghost use Rattle.jsonptr.specs.Json.{nodes};
 ghost use Rattle.jsonptr_relayout.specs.Relaying.{text_of_relaid, ReadsAs, KeepsLayout, IsRelayoutError, IsRelayoutTextError};
 
 use crate::given::{GivenValue, given_values};
@@ -161,8 +161,8 @@ fn laid_out(
     }
 }
 
-/// Makes a text of the document of the text `new` in the layout of the text `old`. Whether it is one
-/// has to be seen by reading it.
+/// Makes a text of the document that `text` is a text of, in the layout of the text `old`. Whether it
+/// is one has to be seen by reading it.
 ///
 /// # Errors
 ///
@@ -170,13 +170,13 @@ fn laid_out(
 fn candidate(
     alloc: Global,
     old: &str,
-    new: &str,
+    text: &str,
     given: &[&str],
 ) -> Result<Option<String>, AllocError> {
     let Some(from) = tree_of(alloc, old)? else {
         return Ok(None);
     };
-    let Some(to) = tree_of(alloc, new)? else {
+    let Some(to) = tree_of(alloc, text)? else {
         return Ok(None);
     };
     let given_trees = trees_of(alloc, given)?;
@@ -185,7 +185,7 @@ fn candidate(
         to,
         given: given_trees,
     };
-    Ok(Some(relaid_text(alloc, old, new, given, &trees)?))
+    Ok(Some(relaid_text(alloc, old, text, given, &trees)?))
 }
 
 /// The trees of texts.
@@ -203,7 +203,7 @@ struct Trees {
 fn relaid_text<'t>(
     alloc: Global,
     old: &'t str,
-    new: &'t str,
+    text: &'t str,
     given: &'t [&'t str],
     trees: &'t Trees,
 ) -> Result<String, AllocError> {
@@ -220,7 +220,7 @@ fn relaid_text<'t>(
         is_spread: old.trim_end().contains('\n'),
     };
     let to = GivenValue {
-        text: new,
+        text,
         node: &trees.to,
     };
     layer.lay(&trees.from, to, at, MAX_DEPTH + 1)?;

@@ -13,8 +13,9 @@
 //! - [`relayout_with_texts`] takes a value, and texts of values that are new in it.
 //!
 //! A value that is the same in both documents keeps its bytes. An array or an object that changed
-//! keeps what is around its children: a child that is gone takes its comma and its line along, and a
-//! new one comes in the style of its siblings. Any other new value is laid out as the document is.
+//! keeps what is around its children. A child that is gone takes its comma along; the white space
+//! after the bracket stays, and a line break if a kept child without one follows. A new child comes
+//! in the style of its siblings. Any other new value is laid out as the document is.
 //!
 //! What the result reads as is proved, since the result is read again. Which bytes it keeps is tested,
 //! except that a text that already reads as the new document is unchanged.

@@ -17,12 +17,12 @@ use Rattle.jsonptr.specs.declared.pointer.buf.ReplaceError.{ReplaceError}
 use Rattle.jsonptr.specs.declared.resolve.Error.{Error as ResolveError}
 use Rattle.jsonptr.specs.declared.assign.Error.{Error as AssignError}
 
--- `tokens`: the tokens of a pointer. `nodes`: the map of a document.
+-- `tokens`: the tokens of a pointer. `nodes`: the map of a document
 pub record State : Type 0 where
   pub tokens : List Text
   pub nodes : NodeMap
 
--- The commands of the machine: the calls of a session, with texts, lists of tokens and maps as arguments.
+-- The commands of the machine: the calls of a session, with texts, lists of tokens and maps as arguments
 pub data Command : Type 0 where
   parse : Text → Command
   push_back : Text → Command
@@ -37,7 +37,7 @@ pub data Command : Type 0 where
   assign : NodeMap → Command
   delete : Command
 
--- The answers of the machine: the replies of a session, except the one to a failed allocation.
+-- The answers of the machine: the replies of a session, except the one to a failed allocation
 pub data Answer : Type 0 where
   done : Answer
   bad_pointer : ParseError → Text → Answer
@@ -50,7 +50,7 @@ pub data Answer : Type 0 where
   deleted : Option NodeMap → Answer
 
 -- `Transition blank old c a new`: in state `old` the machine answers command `c` by `a`, and its next state is `new`.
--- `blank` is the map that is left after the root is deleted.
+-- `blank` is the map that is left after the root is deleted
 abbrev pub Transition : NodeMap → State → Command → Answer → State → Type 0
 Transition blank old (parse s) done new = (text new.tokens ≡ s) × (new.nodes ≡ old.nodes)
 Transition blank old (parse s) (bad_pointer e t) new = IsParseErrorOf s e × (t ≡ s) × (new ≡ old)
@@ -86,10 +86,10 @@ Transition blank old delete (deleted (Some m)) new =
 Transition blank old delete (deleted None) new = NamesNothing old.nodes old.tokens × (new ≡ old)
 Transition blank old c a new = ⊥
 
--- `NeedsNoMemory old c`: command `c` needs no memory in state `old`. That is so for `clear`, for a pop if there are no
--- tokens, for `parse` if the text is not a pointer, and for `replace` if there is no token at the position. If the text
--- of the tokens has no `~`, which is byte 126, it is so for `write` and `delete`, for `resolve` if the tokens do not
--- resolve, and for `assign` if they do or if no value can be assigned.
+-- `NeedsNoMemory old c`: command `c` needs no memory in state `old`. That is so for `clear`, and for a pop if there are
+-- no tokens. It is so for `parse` if the text is not a pointer, and for `replace` if there is no token at the position.
+-- If the text of the tokens has no `~`, which is byte 126, it is so for `write` and `delete`. Then it is also so for
+-- `resolve` if the tokens do not resolve, and for `assign` if they do or if no value can be assigned
 abbrev pub NeedsNoMemory : State → Command → Type 0
 NeedsNoMemory old (parse s) = IsPointer s → ⊥
 NeedsNoMemory old pop_back = old.tokens ≡ []
@@ -103,13 +103,13 @@ NeedsNoMemory old delete = HasNoTilde (text old.tokens)
 NeedsNoMemory old c = ⊥
 
 -- `IsStep blank old c a new`: one step of a session, which is a transition, or, if an allocation fails, has no answer
--- and leaves the state unchanged. A command that needs no memory always has an answer.
+-- and leaves the state unchanged. A command that needs no memory always has an answer
 abbrev pub IsStep : NodeMap → State → Command → Option Answer → State → Type 0
 IsStep blank old c (Some a) new = Transition blank old c a new
 IsStep blank old c None new = (NeedsNoMemory old c → ⊥) × (new ≡ old)
 
 -- `Runs blank old cs answers new`: the commands `cs` lead from state `old` to `new`, one step for each command, in
--- order.
+-- order
 abbrev pub Runs : NodeMap → State → List Command → List (Option Answer) → State → Type 0
 Runs blank old [] [] new = new ≡ old
 Runs blank old (c ∷ cs) (a ∷ answers) new =

@@ -11,22 +11,22 @@ use Rattle.jsonptr.specs.declared.resolve.Error.{Error}
 use Rattle.jsonptr_session.specs.declared.undo.Undo.{Undo}
 use Rattle.jsonptr_session.specs.declared.undo.Undo.TheVariants.{Put, Remove}
 
--- `tokens_at u`: the tokens of the location that undo `u` changes.
+-- `tokens_at u`: the tokens of the location that undo `u` changes
 abbrev pub tokens_at : {V : Type 0} → Undo V → List Text
 tokens_at (Put p v) = p
 tokens_at (Remove p) = p
 
--- `put_by u`: the value that undo `u` puts there, or `None` if it removes the one there.
+-- `put_by u`: the value that undo `u` puts there, or `None` if it removes the one there
 abbrev pub put_by : {V : Type 0} → Undo V → Option V
 put_by (Put p v) = Some v
 put_by (Remove p) = None
 
--- `IfPut u P`: the value that undo `u` puts there, if any, has the property `P`.
+-- `IfPut u P`: the value that undo `u` puts there, if any, has the property `P`
 abbrev pub IfPut : {V : Type 0} → Undo V → (V → Type 0) → Type 0
 IfPut (Put p v) P = P v
 IfPut (Remove p) P = ⊤
 
--- `IsUndoError n tokens e`: if `e` is not a failed allocation, evaluating `tokens` in `n` fails, and `e` reports why.
+-- `IsUndoError n tokens e`: if `e` is not a failed allocation, evaluating `tokens` in `n` fails, and `e` reports why
 abbrev pub IsUndoError : NodeMap → List Text → Fault Error → Type 0
 IsUndoError n tokens (Refused e) = Refuses n tokens e
 IsUndoError n tokens (Memory e) = ⊤

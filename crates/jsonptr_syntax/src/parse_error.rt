@@ -274,11 +274,11 @@ impl Diagnostic for ParseError {
         match self {
             ParseError::NoLeadingSlash => one_label(alloc, "must start with a slash ('/')", 0, 0),
             ParseError::InvalidEncoding { offset, source } => {
-                let Some(place) = offset.checked_add(source.offset) else {
+                let Some(start) = offset.checked_add(source.offset) else {
                     return Ok(None);
                 };
                 let len = self.invalid_encoding_len(subject.as_str());
-                one_label(alloc, "'~' must be followed by '0' or '1'", place, len)
+                one_label(alloc, "'~' must be followed by '0' or '1'", start, len)
             }
         }
     }

@@ -1,5 +1,5 @@
 -- Documents as maps from paths to nodes, following tokens in them, and writing where the tokens
--- lead (RFC 6901, section 4).
+-- lead (RFC 6901, section 4)
 pub mod Node
 pub mod Following
 pub mod Content

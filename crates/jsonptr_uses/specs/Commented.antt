@@ -15,7 +15,7 @@ use Rattle.jsonptr_uses.specs.declared.commented.SettingError.TheVariants.{Comme
 abbrev pub HasSetting : Text → List Text → Data → Type 0
 HasSetting text tokens v = (json : Text) × IsWithoutComments text json × FindsInText json tokens v
 
--- `IsSettingError text tokens e`: `e` is why there is no such value, if it is not for memory
+-- `IsSettingError text tokens e`: `e` is why there is no such value, unless an allocation failed
 abbrev pub IsSettingError : Text → List Text → SettingError → Type 0
 IsSettingError text tokens (Comment e) = IsUnterminated text e.offset
 IsSettingError text tokens (InText e) = (json : Text) × IsWithoutComments text json × IsInTextError json tokens e

@@ -7,11 +7,11 @@ use Rattle.jsonptr.specs.Delete.{NamesNothing}
 use Rattle.jsonptr.specs.Resolve.{Refuses}
 use Rattle.jsonptr.specs.declared.resolve.Error.{Error}
 
--- `FindsInLayers upper lower ts value`: `ts` resolve to `value` in `upper`, or to nothing there and to `value` in `lower`.
+-- `FindsInLayers upper lower ts value`: `ts` resolve to `value` in `upper`, or to nothing there and to `value` in `lower`
 abbrev pub FindsInLayers : Data → Data → List Text → Data → Type 0
 FindsInLayers upper lower ts value =
     FindsValue upper ts value ⊎ (NamesNothing (nodes upper) ts × FindsValue lower ts value)
 
--- `RefusesIn upper lower ts e`: `ts` resolve to nothing in either, and `e` reports why for `lower`.
+-- `RefusesIn upper lower ts e`: `ts` resolve to nothing in either, and `e` reports why for `lower`
 abbrev pub RefusesIn : Data → Data → List Text → Error → Type 0
 RefusesIn upper lower ts e = NamesNothing (nodes upper) ts × Refuses (nodes lower) ts e

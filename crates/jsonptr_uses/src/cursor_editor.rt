@@ -154,7 +154,7 @@ impl CursorEditor {
             (document_under self.new ≡ document_under self.old) }
         ensures undos_unchanged { OnErr result
             (undos_of (editor_of self.new) ≡ undos_of (editor_of self.old)) }
-        ensures kept { cursor_of self.new ≡ cursor_of self.old }
+        ensures cursor_unchanged { cursor_of self.new ≡ cursor_of self.old }
     {
         json_law();
         self.editor.assign(alloc, self.cursor.as_ptr(), value)
@@ -169,7 +169,7 @@ impl CursorEditor {
     ///
     /// [`Fault::Memory`] if an allocation fails, and no other error. The editor is unchanged.
     pub fn remove(&mut self, alloc: Global) -> Result<(), Fault<resolve::Error>>
-        ensures removed { IfOk result (λ _.
+        ensures deleted { IfOk result (λ _.
             Deletes (nodes (document_under self.old)) (cursor_of self.old) (nodes null)
             (nodes (document_under self.new))) }
         ensures moved { IfOk result (λ _. IsAbove (cursor_of self.old) (cursor_of self.new)) }
@@ -230,10 +230,10 @@ fn next_element(
     let Some(len) = array_len(alloc, document, front)? else {
         return Ok(None);
     };
-    let Some(place) = place_after(&last, len) else {
+    let Some(next) = index_after(&last, len) else {
         return Ok(None);
     };
-    let token = Token::from_number(alloc, place)?;
+    let token = Token::from_number(alloc, next)?;
     Ok(Some(front.with_trailing_token(alloc, token)?))
 }
 
@@ -274,14 +274,14 @@ fn len_of(value: &Value) -> Option<usize>
 }
 
 /// Returns the index after the one that `token` is, if an array of length `len` has it.
-fn place_after(token: &Token<'_>, len: usize) -> Option<usize>
+fn index_after(token: &Token<'_>, len: usize) -> Option<usize>
     ensures { MatchOption result
         ((i : ℕ) → token.now ≡ dec i → i + 1 < len → ⊥)
         (λ next. (i : ℕ) × (token.now ≡ dec i) × (next ≡ i + 1) × (next < len)) }
 {
     match token.to_index() {
-        Ok(Index::Num(place)) => {
-            let next = place.saturating_add(1);
+        Ok(Index::Num(index)) => {
+            let next = index.saturating_add(1);
             if next < len { Some(next) } else { None }
         }
         Ok(Index::Next) => None,

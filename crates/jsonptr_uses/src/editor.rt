@@ -102,7 +102,7 @@ impl Editor {
     ) -> Result<(), Fault<resolve::Error>>
         ensures named { IfOk result (λ _. (w : Path)
             × Names (nodes (editor_document self.old)) (tokens pointer.entry) w) }
-        ensures removed { IfOk result (λ _. Deletes (nodes (editor_document self.old))
+        ensures deleted { IfOk result (λ _. Deletes (nodes (editor_document self.old))
             (tokens pointer.entry) (nodes null) (nodes (editor_document self.new))) }
         ensures opened { (start : Data)
             → IsOpenedOn start self.old → IsOpenedOn start self.new }
@@ -185,9 +185,9 @@ fn undo_of_removal(
     json_law();
     put_law();
     let _value = pointer.resolve(alloc, document)?;
-    let place = above(pointer);
-    let parent = place.resolve(alloc, document)?.clone()?;
-    Ok(Undo::Put(place.to_buf(alloc)?, parent))
+    let parent_pointer = above(pointer);
+    let parent = parent_pointer.resolve(alloc, document)?.clone()?;
+    Ok(Undo::Put(parent_pointer.to_buf(alloc)?, parent))
 }
 
 /// Returns the pointer of the parent, or the root for the root.

@@ -38,7 +38,7 @@ pub fn set_existing(
     pointer: Pointer<'_>,
     value: Value,
 ) -> Result<Option<String>, InPlaceError<EditError<assign::Error>>>
-    ensures set { IfOk result (λ o. MatchOption o
+    ensures assigned { IfOk result (λ o. MatchOption o
         ((e : Error) × RefusesInText text.now (tokens pointer.entry) e)
         (λ s. ((d : Data) × FindsInText text.now (tokens pointer.entry) d)
         × AssignsInText text.now (tokens pointer.entry) (nodes (view value)) (string_bytes s))) }
@@ -138,7 +138,7 @@ pub fn migrated(
         ((e : a_patch_error) × IsPatchError text.now operations.items (Refused e))
         (λ s. PatchesInText text.now operations.items (string_bytes s))) }
     ensures refused { IfErr result (IsPatchError text.now operations.items) }
-    ensures not_refused { IfErr result (λ e. (f : a_patch_error) → e ≡ Refused f → ⊥) }
+    ensures never_refused { IfErr result (λ e. (f : a_patch_error) → e ≡ Refused f → ⊥) }
 {
     match apply_in_text(alloc, text, operations) {
         Ok(edited) => Ok(Some(edited.into_string())),

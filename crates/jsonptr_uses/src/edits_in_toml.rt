@@ -14,7 +14,7 @@ use toml::Value;
 
 /// Which of the two edits fails, and why.
 #[derive(Debug, Drop, Error)]
-pub enum ReplaceError {
+pub enum TwoEditsError {
     /// The new value is not assigned.
     #[error("{0}")]
     Assign(InPlaceError<EditTomlError<assign::Error>>),
@@ -23,15 +23,15 @@ pub enum ReplaceError {
     Delete(InPlaceError<EditTomlError<Infallible>>),
 }
 
-impl From<InPlaceError<EditTomlError<assign::Error>>> for ReplaceError {
-    fn from(error: InPlaceError<EditTomlError<assign::Error>>) -> ReplaceError {
-        ReplaceError::Assign(error)
+impl From<InPlaceError<EditTomlError<assign::Error>>> for TwoEditsError {
+    fn from(error: InPlaceError<EditTomlError<assign::Error>>) -> TwoEditsError {
+        TwoEditsError::Assign(error)
     }
 }
 
-impl From<InPlaceError<EditTomlError<Infallible>>> for ReplaceError {
-    fn from(error: InPlaceError<EditTomlError<Infallible>>) -> ReplaceError {
-        ReplaceError::Delete(error)
+impl From<InPlaceError<EditTomlError<Infallible>>> for TwoEditsError {
+    fn from(error: InPlaceError<EditTomlError<Infallible>>) -> TwoEditsError {
+        TwoEditsError::Delete(error)
     }
 }
 
@@ -40,15 +40,15 @@ impl From<InPlaceError<EditTomlError<Infallible>>> for ReplaceError {
 ///
 /// # Errors
 ///
-/// [`ReplaceError::Assign`] with that of [`assign_in_toml_in_place`], and [`ReplaceError::Delete`] with that of
-/// [`delete_in_toml_in_place`]. The text is borrowed, so nothing is changed by half.
+/// [`TwoEditsError::Assign`] with that of [`assign_in_toml_in_place`], and [`TwoEditsError::Delete`]
+/// with that of [`delete_in_toml_in_place`]. The text is borrowed, so nothing is changed by half.
 pub fn replace_in_toml(
     alloc: Global,
     text: &str,
     new: Pointer<'_>,
     value: Value,
     old: Pointer<'_>,
-) -> Result<Option<String>, ReplaceError>
+) -> Result<Option<String>, TwoEditsError>
     ensures { IfOk result (λ o. MatchOption o
         (AssignsAndLacks text.now (tokens new.entry) (view value) (tokens old.entry))
         (λ s. AssignsAndDeletes text.now (tokens new.entry) (view value)

@@ -21,7 +21,7 @@ ghost use Rattle.jsonptr_in_text.specs.declared.format.Format.TheVariants.{Compa
 use jsonptr_c_calls::call_error::CallError;
 use jsonptr_c_calls::documents::{diff, free, node_at, parse, string_at};
 use jsonptr_c_calls::locations::{locate_in, pointer_at_in};
-use jsonptr_c_calls::node_type::STRING;
+use jsonptr_c_calls::node::STRING;
 use jsonptr_c_calls::texts::print_in;
 use jsonptr_c_handle::handle::Handle;
 use jsonptr_in_text::Format;
@@ -127,7 +127,7 @@ pub fn field_in(
     match print_in(alloc, text, pointer, Format::Compact, out) {
         Ok(copied) => Ok(Some(copied)),
         Err(CallError::Resolve(_error)) => Ok(None),
-        Err(failure) => Err(failure),
+        Err(call_error) => Err(call_error),
     }
 }
 
@@ -157,13 +157,13 @@ pub fn pointer_under(
     offset: usize,
     out: &mut [u8],
 ) -> Result<Option<usize>, CallError>
-    ensures found { IfOk result (λ found. MatchOption found (IsOutside text.now offset)
+    ensures located { IfOk result (λ found. MatchOption found (IsOutside text.now offset)
         (λ n. PointsAt text.now offset (take n out.new))) }
     ensures refused { IfErr result (IsNotPointedAt text.now offset (length out.old)) }
 {
     match pointer_at_in(alloc, text, offset, out) {
         Ok(copied) => Ok(Some(copied)),
         Err(CallError::NoValue { .. }) => Ok(None),
-        Err(failure) => Err(failure),
+        Err(call_error) => Err(call_error),
     }
 }

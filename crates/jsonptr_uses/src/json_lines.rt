@@ -10,7 +10,7 @@ ghost use Rattle.jsonptr_io.specs.Lines.{AreLines};
 ghost use Rattle.jsonptr_io.specs.Streams.{ForInput};
 ghost use Rattle.jsonptr_paths.specs.Listing.{Lists};
 ghost use Rattle.jsonptr_paths.specs.declared.listing.Listed.TheVariants.{Leaves};
-ghost use Rattle.jsonptr_paths.specs.declared.reading.LineError.{LineError};
+ghost use Rattle.jsonptr_paths.specs.declared.build.LineError.{LineError};
 ghost use Rattle.jptr_tasks.specs.Layouts.{ReadsBack};
 ghost use Rattle.jptr_tasks.specs.LineResults.{StopsRun};
 ghost use Rattle.jptr_tasks.specs.declared.task_error.TaskError.TheVariants.{BadLine};
@@ -38,7 +38,7 @@ pub struct Tag<'a> {
     /// Where.
     pub pointer: Pointer<'a>,
     /// The value.
-    pub value: RawValue,
+    pub raw: RawValue,
 }
 
 /// Assigns the tag in the document on each line, as a log is tagged with its source.
@@ -56,14 +56,14 @@ pub fn tag_each_line<R: io::BufRead, W: io::Write, E: io::Write>(
 ) -> Result<bool, TaskError>
     ensures tagged { IfOk result (λ all. IsTrue all → ForInput (R.remaining input.old)
         (λ bytes. (ls : List Text) × (out : Text) × AreLines bytes ls
-        × TagsEach (tokens tag.entry.pointer) (value_of_raw tag.entry.value) ls out
+        × TagsEach (tokens tag.entry.pointer) (value_of_raw tag.entry.raw) ls out
         × Appends (W.contents output.old) (W.contents output.new) out)) }
     ensures reported { IfOk result (λ all. IsFalse all → (report : Text) × (report ≢ [])
         × Appends (E.contents errors.old) (E.contents errors.new) report) }
     ensures refused { IfErr result StopsRun }
 {
     let run = LineTask {
-        task: Task::Set(tag.pointer, tag.value),
+        task: Task::Set(tag.pointer, tag.raw),
         layout: Layout::Kept,
         fallback: None,
         name: String::from_str(alloc, "log")?,
@@ -71,7 +71,7 @@ pub fn tag_each_line<R: io::BufRead, W: io::Write, E: io::Write>(
     };
     match run_lines(alloc, &run, input, output, errors)? {
         Ended::Fine => Ok(true),
-        Ended::Faults | Ended::Stopped => Ok(false),
+        Ended::WithErrors | Ended::Stopped => Ok(false),
     }
 }
 

@@ -49,18 +49,18 @@ pub fn resolve_reference<'v>(
     ensures refused { IfRefused result
         (RefusesReference (view document.now) (tokens pointer.entry) steps) }
 {
-    let mut place = pointer;
+    let mut current = pointer;
     for _turn in 0..steps {
-        let value = find(alloc, document, place)?;
+        let value = find(alloc, document, current)?;
         match reference(value) {
             Some(text) => match Pointer::parse(text) {
-                Ok(next) => place = next,
+                Ok(next) => current = next,
                 Err(error) => return Err(Fault::Refused(ReferenceError::NotAPointer(error))),
             },
             None => return Ok(value),
         }
     }
-    let value = find(alloc, document, place)?;
+    let value = find(alloc, document, current)?;
     match reference(value) {
         Some(_text) => Err(Fault::Refused(ReferenceError::TooLong)),
         None => Ok(value),

@@ -38,7 +38,7 @@ impl From<AllocError> for TextError {
 
 /// The document after a session, and one reply for each call.
 #[derive(Debug, Drop)]
-pub struct Outcome {
+pub struct SessionResult {
     /// The document.
     pub document: Value,
     /// The replies, in the order of the calls.
@@ -61,7 +61,7 @@ pub fn run_texts(
     pointer: &mut PointerBuf,
     document: &str,
     calls: &[Call<String>],
-) -> Result<Outcome, TextError>
+) -> Result<SessionResult, TextError>
     ensures read { IfOk result (λ _.
         IsSome (read_text document.now) × All (CallHas IsJsonString) calls.now) }
     ensures runs { IfOk result (λ outcome. Runs json_blank
@@ -81,7 +81,7 @@ pub fn run_texts(
     let mut document = read_value(alloc, document)?;
     let calls = read_calls(alloc, calls)?;
     let replies = run_json(alloc, pointer, &mut document, calls)?;
-    Ok(Outcome { document, replies })
+    Ok(SessionResult { document, replies })
 }
 
 /// Makes the same calls on two copies of a document, each with a pointer of its own.
@@ -98,7 +98,7 @@ pub fn run_on_copies(
     second: &mut PointerBuf,
     document: &str,
     calls: &[Call<String>],
-) -> Result<(Outcome, Outcome), TextError>
+) -> Result<(SessionResult, SessionResult), TextError>
     ensures pointers { IfOk result (λ both. first.old ≡ second.old
         → All IsSome (map (answer_of json_map) both.0.replies.items)
         → All IsSome (map (answer_of json_map) both.1.replies.items)

@@ -30,19 +30,19 @@ use std::io;
 pub fn set_in_stream<R: io::Read, W: io::Write>(
     alloc: Global,
     pointer: Pointer<'_>,
-    value: RawValue,
+    raw: RawValue,
     input: &mut R,
     output: &mut W,
 ) -> Result<(), TaskError>
-    ensures set { IfOk result (λ _. ForInput (R.remaining input.old) (λ bytes. (out : Text)
-        × AssignsInText bytes (tokens pointer.entry) (nodes (value_of_raw value)) out
-        × AssignsBytes bytes (tokens pointer.entry) (value_of_raw value) out
-        × Carries (string_bytes value.text.flat) out
+    ensures assigned { IfOk result (λ _. ForInput (R.remaining input.old) (λ bytes. (out : Text)
+        × AssignsInText bytes (tokens pointer.entry) (nodes (value_of_raw raw)) out
+        × AssignsBytes bytes (tokens pointer.entry) (value_of_raw raw) out
+        × Carries (string_bytes raw.text.flat) out
         × Appends (W.contents output.old) (W.contents output.new) out)) }
-    ensures refused { IfErr result (StopsDocument (Set pointer.entry value) Kept
+    ensures refused { IfErr result (StopsDocument (Set pointer.entry raw) Kept
         (R.remaining input.old) (W.contents output.old) (W.contents output.new)) }
 {
-    let task = Task::Set(pointer, value);
+    let task = Task::Set(pointer, raw);
     let mut bytes = Vec::new(alloc);
     run_document(&task, Layout::Kept, input, &mut bytes, output)
 }

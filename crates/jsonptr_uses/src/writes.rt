@@ -36,8 +36,8 @@ pub fn replace<D: ResolveMut>(
     ensures refused { IfRefused result (D.refuses document.old (tokens pointer.entry)) }
     ensures unchanged { OnErr result (D.is_same document.old document.new) }
 {
-    let place = document.resolve_mut(alloc, pointer)?;
-    Ok(mem::replace(place, value))
+    let target = document.resolve_mut(alloc, pointer)?;
+    Ok(mem::replace(target, value))
 }
 
 /// Replaces a value of a JSON document, as [`replace`] does. The document's map then has the map of

@@ -16,12 +16,12 @@ use Rattle.jsonptr_value.specs.Lengths.{elements_length, members_length}
 use Rattle.jsonptr_value.specs.declared.frame.Frame.{Frame}
 use Rattle.jsonptr_value.specs.declared.frame.Frame.TheVariants.{Elements, Members}
 
--- `WritesElements vs old new`: `new` has, after `old`, the tokens of the elements `vs` and of the closing bracket.
+-- `WritesElements vs old new`: `new` has, after `old`, the tokens of the elements `vs` and of the closing bracket
 abbrev pub WritesElements : List Value → List Token → List Token → Type 0
 WritesElements vs = WritesItems (items_view vs)
 
 -- `WritesMembersLeft es old new`: the same of members. Put after members before them, with all keys in order, they are
--- read as all of these.
+-- read as all of these
 abbrev pub WritesMembersLeft : List Entry → List Token → List Token → Type 0
 WritesMembersLeft es old new =
     (ms : json.Members)
@@ -31,12 +31,12 @@ WritesMembersLeft es old new =
     × (tree.members_depth ms ≤ members_depth (members_view es))
     × (blank_members ms ≡ members_outline (members_view es))
 
--- `WritesFrame frame old new`: the same of what is left of an open array or object.
+-- `WritesFrame frame old new`: the same of what is left of an open array or object
 abbrev pub WritesFrame : Frame → List Token → List Token → Type 0
 WritesFrame (Elements vs) = WritesElements vs.now
 WritesFrame (Members es) = WritesMembersLeft es
 
--- `WritesStack frames old new`: the same of each of `frames`, the last one first.
+-- `WritesStack frames old new`: the same of each of `frames`, the last one first
 abbrev pub WritesStack : List Frame → List Token → List Token → Type 0
 WritesStack [] old new = new ≡ old
 WritesStack (f ∷ fs) old new = (middle : List Token) × WritesStack fs old middle × WritesFrame f middle new

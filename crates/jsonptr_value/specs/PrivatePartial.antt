@@ -20,12 +20,12 @@ abbrev pub join_members : Members → Members → Members
 join_members no_members more = more
 join_members (member k d ms) more = member k d (join_members ms more)
 
--- `filled partial d`: the array or object, with `d` for the child that is copied now.
+-- `filled partial d`: the array or object, with `d` for the child that is copied now
 abbrev pub filled : PartialCopy → Data → Data
 filled (Elements copies left) d = array (join_items (items_view copies.items) (item d (items_view left.now)))
 filled (SomeMembers copies key left) d = object (join_members (members_view copies.entries) (member (string_bytes key.now) d (members_view left)))
 
--- `completed partial d`: the value that each of `partial` makes of the next one, and the last one of `d`.
+-- `completed partial d`: the value that each of `partial` makes of the next one, and the last one of `d`
 abbrev pub completed : List PartialCopy → Data → Data
 completed [] d = d
 completed (h ∷ hs) d = filled h (completed hs d)
@@ -34,14 +34,14 @@ abbrev pub data_of : Step → Data
 data_of (Copy v) = view v.now
 data_of (Attach v) = view v
 
--- `IsPrefix copies left`: the members `copies` have the keys that stand before those of `left` in an object.
+-- `IsPrefix copies left`: the members `copies` have the keys that stand before those of `left` in an object
 abbrev pub IsPrefix : List Entry → List Entry → Type 0
 IsPrefix copies left =
     (done : List Entry)
     × (members_view copies ≡ members_view done)
     × IsStrictlySortedBy string_cmp (keys_of (done ++ left))
 
--- `IsPartial partial`: in an object, the copies and the key have the keys that stand before those that are left.
+-- `IsPartial partial`: in an object, the copies and the key have the keys that stand before those that are left
 abbrev pub IsPartial : PartialCopy → Type 0
 IsPartial (Elements copies left) = ⊤
 IsPartial (SomeMembers copies key left) =

@@ -15,7 +15,7 @@ pub const MAX_DEPTH: usize = 127;
 /// How many levels of a value are printed, copied and dropped by recursion, before a loop takes over.
 ///
 /// A level takes some 2 KiB of stack, so all of them fit the 128 KiB that Linux maps when a process
-/// starts: these calls do not make the stack grow, which fails where memory is used up.
+/// starts. These calls do not make the stack grow, which fails if memory is used up.
 pub(crate) const RECURSION_LEVELS: usize = 32;
 
 /// Returns whether the arrays and objects of the value nest at most so many levels deep.

@@ -8,7 +8,7 @@ ghost use Rattle.jsonptr_value.specs.Lengths.{elements_length, members_length, t
 
 use crate::number::write_number;
 use json::Writer;
-use serde_json::{Map, Value};
+use serde_json::Value;
 use std::alloc::{AllocError, Global};
 use std::collections::btree_map::Iter;
 

@@ -67,8 +67,8 @@ struct Stop<'p> {
 /// | stops at a scalar                                | replaces the scalar                |
 ///
 /// In the last three cases the tokens that are left expand the value. From the last to the first,
-/// `-` and `0` put it into a new array, and any other token into a new object. Replacing a value
-/// needs no allocation if the tokens contain no `~`.
+/// `-` and `0` put it into a new array, and any other token into a new object. Replacing the
+/// value that the tokens find needs no allocation if they contain no `~`.
 ///
 /// # Errors
 ///

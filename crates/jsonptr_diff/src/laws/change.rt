@@ -5,7 +5,7 @@ ghost use Rattle.jsonptr.specs.Json.{nodes};
 ghost use Rattle.jsonptr.specs.Node.{NodeMap, sub};
 ghost use Rattle.jsonptr.specs.Text.{Text};
 ghost use Rattle.jsonptr_patch.specs.declared.operation.Operation.{Operation};
-ghost use Rattle.jsonptr_diff.specs.Differing.{AreOfOneKind, IsChange, keys, operation_path};
+ghost use Rattle.jsonptr_diff.specs.Diff.{AreOfOneKind, IsChange, keys, operation_path};
 
 /// States where the changes of one document into another are, as [`diff`](crate::diff) returns them.
 ///
@@ -16,7 +16,7 @@ ghost use Rattle.jsonptr_diff.specs.Differing.{AreOfOneKind, IsChange, keys, ope
 ///   leads below it.
 pub fn change_law()
     ensures same { (d : Data) (o : Operation) → IsChange (nodes d) (nodes d) o → ⊥ }
-    ensures untouched { (n m : NodeMap) (o : Operation) (front rest : List Text)
+    ensures unchanged { (n m : NodeMap) (o : Operation) (front rest : List Text)
         → IsSome (n (keys front)) → sub n (keys front) ≡ sub m (keys front)
         → IsChange n m o → operation_path o ≡ front ++ rest → ⊥ }
     ensures whole { (n m : NodeMap) (o : Operation) (front rest : List Text) (x : Text)

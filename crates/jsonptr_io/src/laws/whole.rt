@@ -3,7 +3,7 @@ ghost use Rattle.std.specs.Prelude.{◌≡◌, ◌↔◌, ℕ, List, [], ◌∷�
 ghost use Rattle.jsonptr_io.specs.Lines.{AreLines, IsNextLine, IsOneLine};
 ghost use Rattle.jsonptr_io.specs.Streams.{AppendsPrefix};
 ghost use Rattle.jsonptr_io.specs.Whole.{IsBroken};
-ghost use Rattle.jsonptr_io.specs.declared.read.Ending.TheVariants.{Break, Input, Nothing};
+ghost use Rattle.jsonptr_io.specs.declared.read.Ending.TheVariants.{Break, Input, NoLine};
 
 /// States what the lines of an input are, by the whole text.
 ///
@@ -15,7 +15,7 @@ pub fn whole_law()
 {}
 
 /// States that [`next_line`](crate::read::next_line), called until it returns
-/// [`Ending::Nothing`](crate::read::Ending::Nothing), reads the lines of the input in order.
+/// [`Ending::NoLine`](crate::read::Ending::NoLine), reads the lines of the input in order.
 ///
 /// After a line with a line break, the lines of the input are that line and those of what is left. A
 /// line without one is the last line.
@@ -25,7 +25,7 @@ pub fn next_line_law()
     ensures last { (bytes rest l : List ℕ)
         → IsNextLine (Some bytes) (Some rest) l Input → AreLines bytes (l ∷ []) × (rest ≡ []) }
     ensures none { (bytes rest l : List ℕ)
-        → IsNextLine (Some bytes) (Some rest) l Nothing → AreLines bytes [] × (rest ≡ []) }
+        → IsNextLine (Some bytes) (Some rest) l NoLine → AreLines bytes [] × (rest ≡ []) }
 {}
 
 /// States what is in an output after a write that failed: what it had, and then a prefix of the bytes.

@@ -9,7 +9,7 @@ ghost use Rattle.jsonptr.specs.Node.{NodeMap, IsTree};
 ghost use Rattle.jsonptr.specs.Removing.{Deletes};
 ghost use Rattle.jsonptr.specs.Text.{Text};
 ghost use Rattle.jsonptr.specs.Documents.{IsDocument};
-ghost use Rattle.jsonptr_patch.specs.Operating.{IsProperFront, Applies, AppliesBy, RestoresAt, RefusesOperation, RefusesOperationBy};
+ghost use Rattle.jsonptr_patch.specs.Operating.{IsProperPrefix, Applies, AppliesBy, RestoresAt, RefusesOperation, RefusesOperationBy};
 ghost use Rattle.jsonptr_patch.specs.declared.comparison.Comparison.{Comparison};
 ghost use Rattle.jsonptr_patch.specs.declared.operation.Operation.{Operation};
 ghost use Rattle.jsonptr_patch.specs.declared.operation.Operation.TheVariants as operation;
@@ -65,7 +65,7 @@ pub fn move_law()
         → (left : NodeMap) × Applies n (operation.Remove from) left
         × Applies left (operation.Add path value) m }
     ensures whole { (n left m : NodeMap) (from path : List Text) (value : Value)
-        → (IsProperFront from path → ⊥)
+        → (IsProperPrefix from path → ⊥)
         → Finds n from (nodes (view value))
         → Applies n (operation.Remove from) left
         → Applies left (operation.Add path value) m

@@ -7,4 +7,4 @@ use Rattle.jptr_tasks.proofs.difference.difference_of.Goals as goal
 pub returns-in_err-text-clause-refused : goal.returns-in_err-text-clause-refused
 returns-in_err-text-clause-refused c =
     let p = err_from_is_err_and c.from_residual-in_err-text.result c.from_residual-in_err-text.ensures.1 in
-    rw (p.1, p.2) (patch_fault (nodes (view c.args.old.now)) (nodes (view c.args.new.now)) c.in_ok-patch.patch.items _ c.in_ok-patch.ensures.patch c.in_err-text.ensures.refused)
+    rw (p.1, p.2) (patch_fault (nodes (view c.args.old.now)) (nodes (view c.args.new.now)) c.in_ok-patch.patch.items _ c.in_ok-patch.ensures.applied c.in_err-text.ensures.refused)

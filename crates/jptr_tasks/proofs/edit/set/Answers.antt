@@ -7,6 +7,6 @@ returns-in-Kept-clause-assigned c = rw c.in-Kept.is c.set_in_place.ensures.assig
 
 pub returns-in_default : goal.returns-in_default
 returns-in_default c = record {
-  assigned = set_anew c.args.text.now (tokens c.args.pointer) c.args.value.now c.args.layout c.set_anew.result c.in_default.not-Kept c.set_anew.ensures.assigned;
+  assigned = set_anew c.args.text.now (tokens c.args.pointer) c.args.raw.now c.args.layout c.set_anew.result c.in_default.not-Kept c.set_anew.ensures.assigned;
   refused = c.set_anew.ensures.refused;
 }

@@ -7,5 +7,5 @@ use Rattle.jptr_tasks.proofs.edit.set_anew.Goals as goal
 
 pub returns-clause-assigned : goal.returns-clause-assigned
 returns-clause-assigned c =
-    remade (AssignsInText c.args.text.now (tokens c.args.pointer) (nodes (value_of_raw c.args.value.now))) c.args.layout (edited_text c.in_ok-edited.edited) _ c.lay_out.result
+    remade (AssignsInText c.args.text.now (tokens c.args.pointer) (nodes (value_of_raw c.args.raw.now))) c.args.layout (edited_text c.in_ok-edited.edited) _ c.lay_out.result
     c.in_ok-edited.ensures.assigned c.as_str.ensures c.lay_out.ensures.laid_out

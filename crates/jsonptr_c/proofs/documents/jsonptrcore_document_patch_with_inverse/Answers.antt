@@ -5,7 +5,7 @@ use Rattle.jsonptr_c.proofs.documents.jsonptrcore_document_patch_with_inverse.Go
 
 pub returns-in-Err-clause-refused : goal.returns-in-Err-clause-refused
 returns-in-Err-clause-refused c = λ failed. (
-  c.in-Err.failure,
+  c.in-Err.call_error,
   c.fail_with_length.ensures.reported,
-  subst (λ (l : Format). IsNotPatchText c.args.text.now c.in-Err.failure ⊎ IsNotAppliedWithBack l c.args.text.now c.args.document.now (length c.args.out.now) c.in-Err.failure) c.format_for.ensures c.in-Err.ensures.refused,
+  subst (λ (l : Format). IsNotPatchText c.args.text.now c.in-Err.call_error ⊎ IsNotAppliedWithBack l c.args.text.now c.args.document.now (length c.args.out.now) c.in-Err.call_error) c.format_for.ensures c.in-Err.ensures.refused,
 )

@@ -6,7 +6,7 @@ use Rattle.jsonptr_c.proofs.documents.jsonptrcore_document_print.Goals as goal
 
 pub returns-in-Err-clause-refused : goal.returns-in-Err-clause-refused
 returns-in-Err-clause-refused c = λ failed. (
-  c.in-Err.failure,
+  c.in-Err.call_error,
   c.fail_with_length.ensures.reported,
-  subst (λ (l : Format). FailsOnHandle c.args.document.now (λ v. IsNotPrinted l (view v) c.args.pointer.now (length c.args.out.now) c.in-Err.failure) c.in-Err.failure) c.format_for.ensures c.in-Err.ensures.refused,
+  subst (λ (l : Format). FailsOnHandle c.args.document.now (λ v. IsNotPrinted l (view v) c.args.pointer.now (length c.args.out.now) c.in-Err.call_error) c.in-Err.call_error) c.format_for.ensures c.in-Err.ensures.refused,
 )

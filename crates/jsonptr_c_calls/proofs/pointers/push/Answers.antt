@@ -27,4 +27,4 @@ pub returns-in-Err-clause-refused : goal.returns-in-Err-clause-refused
 returns-in-Err-clause-refused c =
     let low : c.args.length ≤ length c.args.buffer.now = search rules in
     let is : c.in-Some.bytes.now ≡ take c.args.length c.args.buffer.now = search rules in
-    inr (low, inl (subst (λ (b : List ℕ). IsNotExtended b c.args.token.now c.in-Err.failure) is c.in-Err.ensures.refused))
+    inr (low, inl (subst (λ (b : List ℕ). IsNotExtended b c.args.token.now c.in-Err.call_error) is c.in-Err.ensures.refused))

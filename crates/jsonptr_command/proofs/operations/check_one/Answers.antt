@@ -1,5 +1,5 @@
 use Rattle.std.proofs.lemmas.Result.{err_from_is_err_and}
-use Rattle.jsonptr_command.proofs.FormsLemmas.{fault_first}
+use Rattle.jsonptr_command.proofs.OperationWordsLemmas.{fault_first}
 use Rattle.jsonptr_command.proofs.operations.check_one.Goals as goal
 
 pub returns-in_err-parse-clause-refused : goal.returns-in_err-parse-clause-refused

@@ -1,6 +1,6 @@
 use Rattle.std.proofs.Common.{refl}
 use Rattle.std.proofs.lemmas.Result.{err_from_is_err_and}
-use Rattle.jsonptr_command.proofs.FormsLemmas.{fault_first, fault_second}
+use Rattle.jsonptr_command.proofs.OperationWordsLemmas.{fault_first, fault_second}
 use Rattle.jsonptr_command.proofs.operations.check_two.Goals as goal
 
 pub returns-in_err-parse-clause-refused : goal.returns-in_err-parse-clause-refused

@@ -114,7 +114,7 @@ diff_elements-loop-from-preserved t c =
       old = omega (arith, c.next_gap-gap.ensures.gap.removed, c.loop-from-test.true, c.deref.ensures.len);
       new = omega (arith, c.next_gap-gap.ensures.gap.added, c.if-to-new_end.true, c.deref-else-is_small_same.ensures.len);
       spliced = λ left e.
-          c.in_ok-diff_gap.ensures.splices c.args.patch.now.items left (omega (arith, e)) (c.loop-from.invariant.spliced (gap.removed + left) (omega (arith, e)));
+          c.in_ok-diff_gap.ensures.spliced c.args.patch.now.items left (omega (arith, e)) (c.loop-from.invariant.spliced (gap.removed + left) (omega (arith, e)));
       parts = appends_join (IsPartBelow (tokens_of c.args.at.now)) c.args.patch.now.items c.loop-from.patch.items c.diff_gap.new.patch.items c.loop-from.invariant.parts c.in_ok-diff_gap.ensures.parts;
       kept = λ all.
           let k = c.loop-from.invariant.kept all in
@@ -144,14 +144,14 @@ diff_elements-returns-clause-turns t c =
     let before : old_end + tail ≡ length c.args.old.now.items = omega (arith, same.within_first, c.len.ensures) in
     let after : new_end + tail ≡ length c.args.new.now.items = omega (arith, same.within_second, c.len-2.ensures) in
     let there : from + gone ≡ old_end = omega (arith, c.loop-from.invariant.old) in
-    let removed = c.in_ok-remove_elements.ensures.splices whole first (array_map c.args.old.now) (array_map c.args.new.now) (length c.args.old.now.items) from tail (array_is_array c.args.old.now) within (c.loop-from.invariant.spliced (gone + tail) all) in
+    let removed = c.in_ok-remove_elements.ensures.spliced whole first (array_map c.args.old.now) (array_map c.args.new.now) (length c.args.old.now.items) from tail (array_is_array c.args.old.now) within (c.loop-from.invariant.spliced (gone + tail) all) in
     let left = splices_at whole first c.remove_elements.new.patch.items base (array_map c.args.old.now) (array_map c.args.new.now) c.loop-from.to (from + gone) tail c.loop-from.to old_end tail refl there refl removed in
     ok_all c.add_elements.result _ _
     (λ added. splices_end whole first c.add_elements.new.patch.items base c.args.old.now c.args.new.now new_end old_end tail same before after (added first (array_map c.args.old.now) old_end tail left))
-    c.add_elements.ensures.splices
+    c.add_elements.ensures.spliced
 
-pub diff_gap-returns-clause-splices : goal.diff_gap-returns-clause-splices
-diff_gap-returns-clause-splices t c =
+pub diff_gap-returns-clause-spliced : goal.diff_gap-returns-clause-spliced
+diff_gap-returns-clause-spliced t c =
     let whole = view (Array c.args.gap.new.now) in
     let base = tokens_of c.args.at.now in
     let old = array_map c.args.old.now in
@@ -170,10 +170,10 @@ diff_gap-returns-clause-splices t c =
     let rest = (removed - both) + left in
     let split : removed + left ≡ both + rest = omega (arith, bound) in
     let before = splices_at whole first c.args.patch.now.items base old new to from (removed + left) to from (both + rest) refl refl split s in
-    let followed = c.in_ok-follow_elements.ensures.splices first rest (omega (arith, all, split)) before in
-    let gone = c.in_ok-remove_elements.ensures.splices whole first old new (length c.args.old.now.items) (from + both) left (array_is_array c.args.old.now) (omega (arith, all, bound)) followed in
+    let followed = c.in_ok-follow_elements.ensures.spliced first rest (omega (arith, all, split)) before in
+    let gone = c.in_ok-remove_elements.ensures.spliced whole first old new (length c.args.old.now.items) (from + both) left (array_is_array c.args.old.now) (omega (arith, all, bound)) followed in
     more first old (from + removed) left (splices_at whole first c.remove_elements.new.patch.items base old new (to + both) ((from + both) + (removed - both)) left (to + both) (from + removed) left refl (omega (arith, bound)) refl gone))
-    c.add_elements.ensures.splices
+    c.add_elements.ensures.spliced
 
 pub follow_elements-loop-done-preserved : goal.follow_elements-loop-done-preserved
 follow_elements-loop-done-preserved t c = record {
@@ -214,8 +214,8 @@ follow_elements-returns-clause-parts t c = c.loop-done.invariant.parts
 pub follow_elements-returns-clause-kept : goal.follow_elements-returns-clause-kept
 follow_elements-returns-clause-kept t c = c.loop-done.invariant.kept
 
-pub follow_elements-returns-clause-splices : goal.follow_elements-returns-clause-splices
-follow_elements-returns-clause-splices t c = λ first left all s.
+pub follow_elements-returns-clause-spliced : goal.follow_elements-returns-clause-spliced
+follow_elements-returns-clause-spliced t c = λ first left all s.
     let done : c.loop-done.done ≡ c.args.pairs.count = omega (arith, c.loop-done-test.false, c.loop-done.auto.done-end) in
     splices_at (view (Array c.args.pairs.new.now)) first c.loop-done.patch.items (tokens_of c.args.at.now) (array_map c.args.old.now) (array_map c.args.pairs.new.now) (c.args.pairs.to + c.loop-done.done) (c.args.pairs.from + c.loop-done.done) (0 + left) (c.args.pairs.to + c.args.pairs.count) (c.args.pairs.from + c.args.pairs.count) left (omega (arith, done)) (omega (arith, done)) (omega arith)
     (c.loop-done.invariant.splices first left 0 all (omega (arith, done)) s)

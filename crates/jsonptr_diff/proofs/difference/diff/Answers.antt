@@ -6,8 +6,8 @@ use Rattle.jsonptr_diff.proofs.ChangeLemmas.{changes_root}
 use Rattle.jsonptr_diff.proofs.TurningLemmas.{turns_patches}
 use Rattle.jsonptr_diff.proofs.difference.diff.Goals as goal
 
-pub returns-clause-patch : goal.returns-clause-patch
-returns-clause-patch c = turns_patches (view c.args.new.now) _ c.diff_at.new.patch.items (nodes (view c.args.old.now)) (nodes (view c.args.new.now)) c.new-patch.ensures.items refl c.in_ok-diff_at.ensures.turns
+pub returns-clause-applied : goal.returns-clause-applied
+returns-clause-applied c = turns_patches (view c.args.new.now) _ c.diff_at.new.patch.items (nodes (view c.args.old.now)) (nodes (view c.args.new.now)) c.new-patch.ensures.items refl c.in_ok-diff_at.ensures.turns
 
 pub returns-clause-changes : goal.returns-clause-changes
 returns-clause-changes c = changes_root (nodes (view c.args.old.now)) (nodes (view c.args.new.now)) c.new-patch.result.items c.diff_at.new.patch.items c.new-patch.ensures.items c.in_ok-diff_at.ensures.changes

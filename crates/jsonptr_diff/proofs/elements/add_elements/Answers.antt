@@ -26,8 +26,8 @@ loop-index-preserved c = record {
   kept = λ e. absurd (omega (arith, e, c.loop-index.auto.index));
 }
 
-pub returns-clause-splices : goal.returns-clause-splices
-returns-clause-splices c = λ first d k left s. splices_at (view (Array c.args.new.now)) first c.loop-index.patch.items (tokens_of c.args.at.now) d (array_map c.args.new.now) c.loop-index.index k left c.args.range.to k left (omega (arith, c.loop-index-test.false, c.loop-index.auto.index-end c.requires.order)) refl refl (c.loop-index.invariant.splices first d k left s)
+pub returns-clause-spliced : goal.returns-clause-spliced
+returns-clause-spliced c = λ first d k left s. splices_at (view (Array c.args.new.now)) first c.loop-index.patch.items (tokens_of c.args.at.now) d (array_map c.args.new.now) c.loop-index.index k left c.args.range.to k left (omega (arith, c.loop-index-test.false, c.loop-index.auto.index-end c.requires.order)) refl refl (c.loop-index.invariant.splices first d k left s)
 
 pub returns-clause-parts : goal.returns-clause-parts
 returns-clause-parts c = c.loop-index.invariant.parts

@@ -23,8 +23,8 @@ loop-done-preserved c = record {
   kept = λ e. absurd (omega (arith, e));
 }
 
-pub returns-clause-splices : goal.returns-clause-splices
-returns-clause-splices c = λ whole first d e len k left a h s. splices_at whole first c.loop-done.patch.items (tokens_of c.args.at.now) d e c.args.index (k + c.loop-done._done) (0 + left) c.args.index (k + c.args.count) left refl (omega (arith, c.loop-done-test.false, c.loop-done.auto._done-end)) (omega arith)
+pub returns-clause-spliced : goal.returns-clause-spliced
+returns-clause-spliced c = λ whole first d e len k left a h s. splices_at whole first c.loop-done.patch.items (tokens_of c.args.at.now) d e c.args.index (k + c.loop-done._done) (0 + left) c.args.index (k + c.args.count) left refl (omega (arith, c.loop-done-test.false, c.loop-done.auto._done-end)) (omega arith)
     (c.loop-done.invariant.splices whole first d e len k left 0 a h (omega (arith, c.loop-done-test.false, c.loop-done.auto._done-end)) s)
 
 pub returns-clause-parts : goal.returns-clause-parts

@@ -12,7 +12,7 @@ use Rattle.jsonptr_json_edits.specs.Alike.{HoldsTokens}
 use Rattle.jsonptr_json_edits.specs.Child.{IsValueText}
 use Rattle.jsonptr_edit_in_text.specs.PrivateOperating.{AddsInText, AddsAtByText, AreMemberChoices}
 use Rattle.jsonptr_edit_in_text.proofs.EditLemmas.{if_new, if_both}
-use Rattle.jsonptr_edit_in_text.proofs.OperatingLemmas.{traded, adds_in_place_of}
+use Rattle.jsonptr_edit_in_text.proofs.OperatingLemmas.{replaced_cut, adds_in_place_of}
 use Rattle.jsonptr_edit_in_text.proofs.BytesLemmas.{replaced_member, adds_there_at}
 use Rattle.jsonptr_edit_in_text.proofs.add.replace_member.Goals as goal
 
@@ -30,7 +30,7 @@ returns-clause-added c =
     if_new c.edit_by.result
     (λ s. IsEdited cut.text.now (string_bytes s) cs (Replace before after))
     (λ s. AddsInText old (front ++ x ∷ []) flat (string_bytes s))
-    (λ s h. adds_in_place_of old (string_bytes s) front x cut.was.now flat (traded old cut.text.now (string_bytes s) front x cs before after cut.was.now flat c.in-Some.ensures are c.in_ok-from_str.ensures.ok c.in_ok-clone.ensures.cases h))
+    (λ s h. adds_in_place_of old (string_bytes s) front x cut.middle.now flat (replaced_cut old cut.text.now (string_bytes s) front x cs before after cut.middle.now flat c.in-Some.ensures are c.in_ok-from_str.ensures.ok c.in_ok-clone.ensures.cases h))
     c.edit_by.ensures.edited
 
 pub returns-clause-bytes : goal.returns-clause-bytes
@@ -48,11 +48,11 @@ returns-clause-bytes c =
     let made = subst (λ (f : Text). (e : Data) × (read f ≡ Some e) × IsValueText e piece) c.as_str.ensures.value (c.in_ok-is_value_of.ensures.value c.if-not-branch.false) in
     let holds = subst (λ (f : Text). HoldsTokens f piece) c.as_str.ensures.value (c.in_ok-is_value_of.ensures.holds c.if-not-branch.false) in
     if_new c.edit_by.result
-    (λ s. IsEdited cut.text.now (string_bytes s) cs (Replace before after) × Splices cut.text.now (string_bytes s) cut.was.now piece)
+    (λ s. IsEdited cut.text.now (string_bytes s) cs (Replace before after) × Splices cut.text.now (string_bytes s) cut.middle.now piece)
     (λ s. AddsAtByText old (front ++ x ∷ []) flat (string_bytes s))
-    (λ s h. adds_there_at old (string_bytes s) (front ++ x ∷ []) flat (replaced_member old (string_bytes s) front x cut.was.now piece flat (subst (λ (t : Text). Splices t (string_bytes s) cut.was.now piece) c.in-Some.ensures h.1)
-    (traded old cut.text.now (string_bytes s) front x cs before after cut.was.now flat c.in-Some.ensures are c.in_ok-from_str.ensures.ok c.in_ok-clone.ensures.cases h.0) (c.is_trimmed.ensures c.if-not-is_trimmed.false) made holds))
+    (λ s h. adds_there_at old (string_bytes s) (front ++ x ∷ []) flat (replaced_member old (string_bytes s) front x cut.middle.now piece flat (subst (λ (t : Text). Splices t (string_bytes s) cut.middle.now piece) c.in-Some.ensures h.1)
+    (replaced_cut old cut.text.now (string_bytes s) front x cs before after cut.middle.now flat c.in-Some.ensures are c.in_ok-from_str.ensures.ok c.in_ok-clone.ensures.cases h.0) (c.is_trimmed.ensures c.if-not-is_trimmed.false) made holds))
     (if_both c.edit_by.result
     (λ s. IsEdited cut.text.now (string_bytes s) cs (Replace before after))
-    (λ s. Splices cut.text.now (string_bytes s) cut.was.now piece)
+    (λ s. Splices cut.text.now (string_bytes s) cut.middle.now piece)
     c.edit_by.ensures.edited c.edit_by.ensures.spliced)

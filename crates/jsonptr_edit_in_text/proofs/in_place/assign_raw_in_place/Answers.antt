@@ -13,6 +13,6 @@ use Rattle.jsonptr_edit_in_text.proofs.in_place.assign_raw_in_place.Goals as goa
 
 pub returns-in-Ok-clause-refused : goal.returns-in-Ok-clause-refused
 returns-in-Ok-clause-refused c =
-    let ts = tokens c.args.pointer in let v = value_of_raw c.args.value.now in
+    let ts = tokens c.args.pointer in let v = value_of_raw c.args.raw.now in
     subst (λ (r : Result (String Global) (InPlaceError (EditError Error))). IfErr r (IsInPlaceError (AssignsInText c.args.text.now ts (nodes v)) (IsAssignError c.args.text.now ts v))) (sym c.ok_or.ensures.value)
     (not_in_place (AssignsInText c.args.text.now ts (nodes v)) (IsAssignError c.args.text.now ts v) c.kept_in_place.result (edited_text c.in-Ok.edited) c.in-Ok.ensures.assigned)

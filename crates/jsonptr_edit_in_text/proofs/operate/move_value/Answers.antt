@@ -2,7 +2,7 @@ use Rattle.std.proofs.Common.{Option, String, IfSome, true≢false, string_bytes
 use Rattle.std.specs.declared.alloc.Global.{Global}
 use Rattle.jsonptr.specs.Text.{Text}
 use Rattle.jsonptr.specs.Pointer.{tokens}
-use Rattle.jsonptr_patch.specs.Operating.{IsProperFront}
+use Rattle.jsonptr_patch.specs.Operating.{IsProperPrefix}
 use Rattle.jsonptr_json_edits.specs.declared.value_text.ValueText.{ValueText}
 use Rattle.jsonptr_edit_in_text.specs.Bytes.{DeletesBytes}
 use Rattle.jsonptr_edit_in_text.specs.EditInText.{DeletesInText}
@@ -20,7 +20,7 @@ returns-clause-moved c =
     let path = tokens c.args.path in
     let flat = string_bytes c.in-Some.printed.flat in
     let left = c.as_str.result.now in
-    let apart : IsProperFront from path → ⊥ = λ h. true≢false (sym (c.is_proper_front.ensures.1 h) ∙ c.if-is_proper_front.false) in
+    let apart : IsProperPrefix from path → ⊥ = λ h. true≢false (sym (c.is_proper_prefix.ensures.1 h) ∙ c.if-is_proper_prefix.false) in
     let found = subst (λ (o : Option ValueText). IfSome o (λ t. FindsText old from (string_bytes t.flat))) c.in-Some.is c.in_ok-printed.ensures in
     let deleted = subst (λ (o : Option (String Global)). IfSome o (λ s. DeletesInText old from (string_bytes s))) c.in-Some-2.is c.in_ok-left.ensures.deleted in
     let to_left = subst (λ (t : Text). DeletesInText old from t) (sym c.as_str.ensures.value) deleted in

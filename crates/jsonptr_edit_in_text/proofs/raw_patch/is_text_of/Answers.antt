@@ -16,4 +16,4 @@ returns c = λ is.
     let again = view c.in_ok-again.again in
     let one = subst (λ (o : Option RawValue). MatchOption o (max_depth < depth v) (λ r. value_of_raw r ≡ v)) c.in-Some.is c.in_ok-printed.ensures in
     let two = subst (λ (o : Option RawValue). MatchOption o (max_depth < depth again) (λ r. value_of_raw r ≡ again)) c.in-Some-2.is c.in_ok-other.ensures in
-    same_value p q c.args.raw.now v again one two c.in_ok-again.ensures (sym c.as_str.ensures.value ∙ c.are_equal.ensures is ∙ c.as_str-2.ensures.value)
+    same_value p q c.args.raw.now v again one two c.in_ok-again.ensures (sym c.as_str.ensures.value ∙ c.is_text.ensures.0 is ∙ c.as_str-2.ensures.value)

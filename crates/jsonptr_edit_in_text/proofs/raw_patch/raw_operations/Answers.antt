@@ -19,7 +19,7 @@ loop-operation-preserved c =
     let rest = into_iter_items c.next.new.self in
     let is : r.operation ≡ o = subst (λ (x : Option RawOperation). IfSome x (λ y. y.operation ≡ o)) c.in-Some-2.is c.in_ok-operation.ensures.operation in
     let given = subst (λ (x : Option RawOperation). IfSome x (Given o raw)) c.in-Some-2.is c.in_ok-operation.ensures.text in
-    let new : c.keep.new.raws.items ≡ old ++ r ∷ [] = c.in_ok-keep.ensures in (
+    let new : c.append.new.raws.items ≡ old ++ r ∷ [] = c.in_ok-append.ensures in (
       ap (λ (l : List RawOperation). operations_in l ++ rest) new ∙ ap (λ (l : List Operation). l ++ rest) (operations_push old r) ∙ append_assoc (operations_in old) (r.operation ∷ []) rest ∙ ap (λ (x : Operation). operations_in old ++ x ∷ rest) is ∙ ap (λ (l : List Operation). operations_in old ++ l) (sym steps.0) ∙ held.0,
       subst (λ (l : List RawOperation). All (IsGivenIn text) l) (sym new) (All-push (IsGivenIn text) old r held.1 (given_in text r o raw is given c.in_ok-raw.ensures)),
     )

@@ -6,4 +6,4 @@ use Rattle.jsonptr_edit_in_text.proofs.replace.replace.Goals as goal
 
 pub returns-clause-bytes : goal.returns-clause-bytes
 returns-clause-bytes c =
-    subst (λ (t : Text). IfOk c.trade.result (λ n. IfSome n (λ s. ReplacesByText t (string_bytes s) (tokens c.args.site.now.pointer) (string_bytes c.args.printed.now.flat)))) c.in-Some.ensures c.trade.ensures.bytes
+    subst (λ (t : Text). IfOk c.replace_cut.result (λ n. IfSome n (λ s. ReplacesByText t (string_bytes s) (tokens c.args.site.now.pointer) (string_bytes c.args.printed.now.flat)))) c.in-Some.ensures c.replace_cut.ensures.bytes

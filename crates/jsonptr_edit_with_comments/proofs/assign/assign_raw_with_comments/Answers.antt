@@ -13,7 +13,7 @@ pub returns-in_err-new-clause-refused : goal.returns-in_err-new-clause-refused
 returns-in_err-new-clause-refused c =
     let w = subst (λ (t : Text). IsWithoutComments c.args.text.now t) (sym c.as_str-old.ensures.value) c.in_ok-bare.ensures.without in
     let p = err_from_is_err_and c.from_residual-in_err-new.result c.from_residual-in_err-new.ensures.1 in
-    rw (p.1, p.2) (refused (λ old new. AssignsInText old (tokens c.args.pointer) (nodes (value_of_raw c.args.value.now)) new) (λ old e. IsAssignError old (tokens c.args.pointer) (value_of_raw c.args.value.now) e) c.args.text.now c.as_str-old.result.now _ w c.in_err-new.ensures.refused)
+    rw (p.1, p.2) (refused (λ old new. AssignsInText old (tokens c.args.pointer) (nodes (value_of_raw c.args.raw.now)) new) (λ old e. IsAssignError old (tokens c.args.pointer) (value_of_raw c.args.raw.now) e) c.args.text.now c.as_str-old.result.now _ w c.in_err-new.ensures.refused)
 
 pub returns-clause-refused : goal.returns-clause-refused
 returns-clause-refused c =

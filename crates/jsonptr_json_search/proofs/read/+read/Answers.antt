@@ -1,4 +1,5 @@
 use Rattle.std.proofs.Common.{◌≡◌, ◌<◌, List, ◌∷◌, Some, map, length, string_bytes, sym, ap, ◌∙◌, subst, arith, rules}
+use Rattle.std.proofs.lemmas.Result.{IfOk-weaker}
 use Rattle.std.specs.Prelude.{is_some}
 use Rattle.json.specs.Token.{Token}
 use Rattle.json.specs.Reads.{token_of}
@@ -46,17 +47,16 @@ read-returns-in_ok-members-in-BeginObject-clause-value t c =
     subst (λ (d : Data). ReadsTokens c.args.depth c.args.reader.now d c.read_members.new.reader) (sym (view-Object r.members))
     (reads_object c.args.depth c.args.reader.now c.next.new.self c.read_members.new.reader (members_view r.members.entries) (omega arith) (c.in-Some.ensures.value ∙ ap (λ k. token_of k ∷ c.next.new.self) c.in-BeginObject.is) r.ensures.value)
 
-pub read-returns-in_err-scalar-in_default-token-clause-refused :
-    goal.read-returns-in_err-scalar-in_default-token-clause-refused
-read-returns-in_err-scalar-in_default-token-clause-refused t c = λ e.
-    let none = c.in_err-scalar-in_default-token.ensures.refused (grind (arith, e, c.from_residual-in_err-scalar-in_default-token.ensures)) in
+pub read-returns-in_default-token-clause-refused : goal.read-returns-in_default-token-clause-refused
+read-returns-in_default-token-clause-refused t c = λ e.
+    let none = c.read_scalar.ensures.refused e in
     unreadable_scalar c.args.depth c.args.reader.now c.next.new.self c.in-Some.token c.in-Some.ensures.value c.in_default-token.not-BeginArray c.in_default-token.not-BeginObject (ap is_some none)
 
-pub read-returns-in_ok-scalar-in_default-token-clause-value :
-    goal.read-returns-in_ok-scalar-in_default-token-clause-value
-read-returns-in_ok-scalar-in_default-token-clause-value t c =
-    let r = c.in_ok-scalar-in_default-token in
-    scalar_reads c.args.depth c.args.reader.now c.next.new.self c.in-Some.token (view r.scalar) c.in-Some.ensures.value c.in_default-token.not-BeginArray c.in_default-token.not-BeginObject r.ensures.value
+pub read-returns-in_default-token-clause-value : goal.read-returns-in_default-token-clause-value
+read-returns-in_default-token-clause-value t c =
+    IfOk-weaker c.read_scalar.result _ _
+    (λ v h. scalar_reads c.args.depth c.args.reader.now c.next.new.self c.in-Some.token (view v) c.in-Some.ensures.value c.in_default-token.not-BeginArray c.in_default-token.not-BeginObject h)
+    c.read_scalar.ensures.value
 
 pub read_elements-returns-in_err-element-clause-refused : goal.read_elements-returns-in_err-element-clause-refused
 read_elements-returns-in_err-element-clause-refused t c = λ e.

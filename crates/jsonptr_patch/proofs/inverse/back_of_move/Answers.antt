@@ -30,7 +30,7 @@ back_in_left-requires c = named_there (contents_of c.args.document.now) (tokens 
 pub returns-in_err-back-clause-refused : goal.returns-in_err-back-clause-refused
 returns-in_err-back-clause-refused c = refused_on (Unit {0}) _ c.in_err-back.field-0.0 _ _
     (λ e r. left_refused (nodes (view c.args.document.now)) (map_of r.0) (map_of r.1) c.args.turn.number (tokens c.args.from) (tokens c.args.path) e
-    (λ f. true≢false (sym (c.is_proper_front.ensures.1 f) ∙ c.if-is_proper_front.false))
+    (λ f. true≢false (sym (c.is_proper_prefix.ensures.1 f) ∙ c.if-is_proper_prefix.false))
     (takes_node (path_of c.in_ok-location.location) r.0 (contents_of c.args.document.now) r.1 (tokens c.args.from) r.2 c.in_ok-location.ensures.found)
     r.3)
     c.in_err-back.ensures.refused c.from_residual-in_err-back.ensures.1
@@ -48,7 +48,7 @@ returns-clause-back c =
 pub returns-clause-refused : goal.returns-clause-refused
 returns-clause-refused c = refused_all c.append_reverse.result _ _
     (λ e r. inr (
-      (λ f. true≢false (sym (c.is_proper_front.ensures.1 f) ∙ c.if-is_proper_front.false)),
+      (λ f. true≢false (sym (c.is_proper_prefix.ensures.1 f) ∙ c.if-is_proper_prefix.false)),
       inl (subst (λ (x : Data). RefusesTarget (nodes x) c.args.turn.number (tokens c.args.from) e) c.in_ok-back.ensures.unchanged r),
     ))
     c.append_reverse.ensures.refused

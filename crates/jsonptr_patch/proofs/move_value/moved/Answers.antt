@@ -25,7 +25,7 @@ pub returns-in-Ok-clause-moved : goal.returns-in-Ok-clause-moved
 returns-in-Ok-clause-moved c = record {
   node = nodes (view c.in_ok-value.field-0.value);
   left = nodes (view c.remove.new.document);
-  apart = λ f. true≢false (sym (c.is_proper_front.ensures.1 f) ∙ c.if-is_proper_front.false);
+  apart = λ f. true≢false (sym (c.is_proper_prefix.ensures.1 f) ∙ c.if-is_proper_prefix.false);
   taken = takes_node (path_of c.in_ok-location.location) (contents_of c.in_ok-value.field-0.value) (contents_of c.args.document.now) (contents_of c.remove.new.document) (tokens c.args.from) c.in_ok-value.ensures.taken c.in_ok-location.ensures.found;
   added = c.in-Ok.ensures.added;
 }
@@ -45,7 +45,7 @@ undo_removal-requires c = (
 pub returns-in-Err-clause-refused : goal.returns-in-Err-clause-refused
 returns-in-Err-clause-refused c = for_refused Entry c.in-Err.field-0.fault _ (RefusesMove (nodes (view c.args.document.now)) c.args.turn.number (tokens c.args.from) (tokens c.args.path))
     (λ e. left_refused (nodes (view c.args.document.now)) (nodes (view c.in_ok-value.field-0.value)) (nodes (view c.remove.new.document)) c.args.turn.number (tokens c.args.from) (tokens c.args.path) e
-    (λ f. true≢false (sym (c.is_proper_front.ensures.1 f) ∙ c.if-is_proper_front.false))
+    (λ f. true≢false (sym (c.is_proper_prefix.ensures.1 f) ∙ c.if-is_proper_prefix.false))
     (takes_node (path_of c.in_ok-location.location) (contents_of c.in_ok-value.field-0.value) (contents_of c.args.document.now) (contents_of c.remove.new.document) (tokens c.args.from) c.in_ok-value.ensures.taken c.in_ok-location.ensures.found))
     c.in-Err.ensures.refused
 

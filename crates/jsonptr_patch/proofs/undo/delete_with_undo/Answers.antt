@@ -6,8 +6,8 @@ use Rattle.jsonptr_patch.proofs.AddingLemmas.{found_ascends}
 use Rattle.jsonptr_patch.proofs.RestoringLemmas.{restored_at}
 use Rattle.jsonptr_patch.proofs.undo.delete_with_undo.Goals as goal
 
-pub returns-in-Some-clause-undo : goal.returns-in-Some-clause-undo
-returns-in-Some-clause-undo c =
+pub returns-in-Some-clause-restores : goal.returns-in-Some-clause-restores
+returns-in-Some-clause-restores c =
     let found = rw c.in-Some.is at c.in_ok-value.ensures.found in
     (c.in-Some.value, ap (λ (path : List Text). Add path c.in-Some.value) c.in_ok-path.ensures, FindsValue-Finds _ _ _ found)
 
@@ -16,7 +16,7 @@ returns-in-Some-clause-inverse c =
     let found = rw c.in-Some.is at c.in_ok-value.ensures.found in
     restored_at _ _ _ _ _ c.in_ok-path.ensures found c.in_ok-value.ensures.deleted
 
-pub returns-in-Some-clause-undo_has_sorted_keys : goal.returns-in-Some-clause-undo_has_sorted_keys
-returns-in-Some-clause-undo_has_sorted_keys c =
+pub returns-in-Some-clause-inverse_sorted : goal.returns-in-Some-clause-inverse_sorted
+returns-in-Some-clause-inverse_sorted c =
     let found = rw c.in-Some.is at c.in_ok-value.ensures.found in
     found_ascends _ _ _ found

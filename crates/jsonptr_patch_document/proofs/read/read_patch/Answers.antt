@@ -9,9 +9,9 @@ returns-in-Some-first_error-clause-refused c =
 
 pub returns-in-None-clause-refused : goal.returns-in-None-clause-refused
 returns-in-None-clause-refused c =
-    refused_weaker c.read_all.result _ _
+    refused_weaker c.read_elements.result _ _
     (λ e bad. inr (items_view c.in-Some.entries.now.items, array_seen (view c.args.document.now) (items_view c.in-Some.entries.now.items) c.in-Some.ensures, bad))
-    c.read_all.ensures.refused
+    c.read_elements.ensures.refused
 
 pub returns-in-None-clause-no_memory : goal.returns-in-None-clause-no_memory
 returns-in-None-clause-no_memory c = λ e bad.
@@ -21,4 +21,4 @@ returns-in-None-clause-no_memory c = λ e bad.
 
 pub returns-in-None-clause-empty : goal.returns-in-None-clause-empty
 returns-in-None-clause-empty c = λ is.
-    c.read_all.ensures.empty (no_entries (view c.args.document.now) c.in-Some.entries.now.items c.in-Some.ensures is)
+    c.read_elements.ensures.empty (no_entries (view c.args.document.now) c.in-Some.entries.now.items c.in-Some.ensures is)

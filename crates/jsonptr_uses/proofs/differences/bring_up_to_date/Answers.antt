@@ -10,12 +10,12 @@ use Rattle.jsonptr_uses.proofs.differences.bring_up_to_date.Goals as goal
 pub returns-clause-updated : goal.returns-clause-updated
 returns-clause-updated c =
     IfOk-weaker c.apply.result _ _
-    (λ _ done. c.difference_law.ensures.applied (view c.args.old.now) (view c.args.new.now) (view c.apply.new.doc) c.in_ok-patch.patch.items c.in_ok-patch.ensures.patch
+    (λ _ done. c.difference_law.ensures.applied (view c.args.old.now) (view c.args.new.now) (view c.apply.new.doc) c.in_ok-patch.patch.items c.in_ok-patch.ensures.applied
     (subst (λ (n : NodeMap). Patches n c.in_ok-patch.patch.items (nodes (view c.apply.new.doc))) c.requires done))
     c.apply.ensures.applied
 
 pub returns-clause-never_refused : goal.returns-clause-never_refused
 returns-clause-never_refused c =
     refused_none c.apply.result _ c.apply.ensures.refused
-    (λ e refused. c.difference_law.ensures.never_refused (view c.args.old.now) (view c.args.new.now) c.in_ok-patch.patch.items e c.in_ok-patch.ensures.patch
+    (λ e refused. c.difference_law.ensures.never_refused (view c.args.old.now) (view c.args.new.now) c.in_ok-patch.patch.items e c.in_ok-patch.ensures.applied
     (subst (λ (n : NodeMap). RefusesPatch n c.in_ok-patch.patch.items e) c.requires refused))

@@ -7,5 +7,5 @@ use Rattle.jsonptr_uses.proofs.json_lines.tag_each_line.Goals as goal
 
 pub returns-in-Fine-clause-tagged : goal.returns-in-Fine-clause-tagged
 returns-in-Fine-clause-tagged g c =
-    let run : LineTask = record { task = Set c.args.tag.pointer c.args.tag.value; layout = Kept; fallback = None; name = c.in_ok-from_str.field-0; is_strict = false } in
-    λ yes. all_tagged run c.args.tag.pointer c.args.tag.value _ _ _ _ _ _ refl refl c.in-Fine.is c.in_ok-run_lines.ensures.written
+    let run : LineTask = record { task = Set c.args.tag.pointer c.args.tag.raw; layout = Kept; fallback = None; name = c.in_ok-from_str.field-0; is_strict = false } in
+    λ yes. all_tagged run c.args.tag.pointer c.args.tag.raw _ _ _ _ _ _ refl refl c.in-Fine.is c.in_ok-run_lines.ensures.written

@@ -12,4 +12,4 @@ returns c =
       order = c.in_ok-text.ensures.order;
       reads_back = c.in_ok-text.ensures.reads_back;
     } in
-    (c.in_ok-patch.patch.items, c.in_ok-patch.ensures.patch, subst (λ (d : Data). IsCompact d text) c.in_ok-document.ensures.document printed)
+    (c.in_ok-patch.patch.items, c.in_ok-patch.ensures.applied, subst (λ (d : Data). IsCompact d text) c.in_ok-document.ensures.document printed)

@@ -1,11 +1,11 @@
-use Rattle.jsonptr_diff.proofs.ChangeLaws.{no_change, untouched, as_a_whole}
+use Rattle.jsonptr_diff.proofs.ChangeLaws.{no_change, unchanged, as_a_whole}
 use Rattle.jsonptr_diff.proofs.laws.change.change_law.Goals as goal
 
 pub returns-clause-same : goal.returns-clause-same
 returns-clause-same c = no_change
 
-pub returns-clause-untouched : goal.returns-clause-untouched
-returns-clause-untouched c = untouched
+pub returns-clause-unchanged : goal.returns-clause-unchanged
+returns-clause-unchanged c = unchanged
 
 pub returns-clause-whole : goal.returns-clause-whole
 returns-clause-whole c = as_a_whole

@@ -12,17 +12,17 @@ use Rattle.jsonptr_tree.proofs.JsonLemmas.{content_of, array_is, object_is}
 use Rattle.jsonptr_document.proofs.JsonLevel.{leaf_of}
 use Rattle.jsonptr_document.proofs.LevelChildren.{array-remove, object-remove, array-lacks, object-lacks, leaf-lacks}
 use Rattle.jsonptr_document.proofs.json.ValueDocumentMut.remove.Goals as goal
-use Rattle.jsonptr_document.proofs.json.ValueDocumentMut.remove.Goals.{in-Array-Element, in-Object-Member, in_default, in_default-via-in-Array-Element+else-place-len, in_default-via-in-Array+in_default, in_default-via-in-Object+in_default, in_default-via-in_default}
+use Rattle.jsonptr_document.proofs.json.ValueDocumentMut.remove.Goals.{in-Array-Element, in-Object-Member, in_default, in_default-via-in-Array-Element+else-index-len, in_default-via-in-Array+in_default, in_default-via-in-Object+in_default, in_default-via-in_default}
 
 pub returns-clause-removed : goal.returns-clause-removed
 returns-clause-removed c = elim c.match-self.branch [
   | in-Array-Element w ↦
-      let vs = w.in-Array-Element.elements in let i = w.in-Array-Element.place in
+      let vs = w.in-Array-Element.elements in let i = w.in-Array-Element.index in
       let a : c.match-self.self ≡ Array w.remove.new.self = search (rules, the_lemmas, w.self-is) in
       let items : w.remove.new.self.items ≡ remove vs.items i = search (rules, the_lemmas) in
       let value : w.remove.result ≡ get_or vs.items i w.remove.result = search (rules, the_lemmas) in
       let inside : i < length vs.items = search (rules, the_lemmas, vs.ok.0) in
-      rw (a, w.in-Array-Element.is-0, w.in-Array-Element.is-1, w.result-is) (array-remove content_of Array array_is w.in-Array-Element.elements w.remove.new.self w.in-Array-Element.place w.remove.result inside value items)
+      rw (a, w.in-Array-Element.is-0, w.in-Array-Element.is-1, w.result-is) (array-remove content_of Array array_is w.in-Array-Element.elements w.remove.new.self w.in-Array-Element.index w.remove.result inside value items)
   | in-Object-Member w ↦
       let m = w.in-Object-Member.members in let k = w.in-Object-Member.key in let n = w.remove-in-Object-Member.new.self in let result = w.remove-in-Object-Member.result in
       let a : c.match-self.self ≡ Object n = search (rules, the_lemmas, w.self-is) in
@@ -31,8 +31,8 @@ returns-clause-removed c = elim c.match-self.branch [
       let unchanged : result ≡ None → n.entries ≡ m.entries = search (rules, the_lemmas) in
       rw (a, w.in-Object-Member.is-0, w.in-Object-Member.is-1, w.result-is) (object-remove content_of Object object_is m n k result value updates unchanged)
   | in_default w ↦ elim w.in_default.branch [
-    | in_default-via-in-Array-Element+else-place-len x ↦
-        let vs = x.in-Array-Element.elements in let i = x.in-Array-Element.place in
+    | in_default-via-in-Array-Element+else-index-len x ↦
+        let vs = x.in-Array-Element.elements in let i = x.in-Array-Element.index in
         let same : w.in_default.self ≡ c.args.self.now = search (rules, the_lemmas, x.self-is) in
         let long : length vs.items ≤ i = search (rules, the_lemmas, vs.ok.0) in
         rw (w.self-is, same, w.result-is) (rw x.in-Array-Element.is-0 (array-lacks content_of Array array_is vs c.args.way.now (λ j is. let both = sym x.in-Array-Element.is-1 ∙ is in let one : i ≡ j = cc in omega arith)), refl)
@@ -45,7 +45,7 @@ returns-clause-removed c = elim c.match-self.branch [
 pub returns-clause-sorted : goal.returns-clause-sorted
 returns-clause-sorted c = elim c.match-self.branch [
   | in-Array-Element w ↦ λ order.
-      let vs = w.in-Array-Element.elements in let i = w.in-Array-Element.place in
+      let vs = w.in-Array-Element.elements in let i = w.in-Array-Element.index in
       let a : c.match-self.self ≡ Array w.remove.new.self = search (rules, the_lemmas, w.self-is) in
       let items : w.remove.new.self.items ≡ remove vs.items i = search (rules, the_lemmas) in
       rw a (ascends_remove content_of Array array_is vs w.remove.new.self (rw w.in-Array-Element.is-0 at order) i items)
@@ -56,7 +56,7 @@ returns-clause-sorted c = elim c.match-self.branch [
       rw a (ascends_remove_member content_of Object object_is m n (rw w.in-Object-Member.is-0 at order) (is_at (λ q. slice_cmp nat_cmp (cow_str_bytes k) (string_bytes q))) entries)
   | in_default w ↦ λ order.
       let same : w.in_default.self ≡ c.args.self.now = elim w.in_default.branch [
-        | in_default-via-in-Array-Element+else-place-len x ↦ search (rules, the_lemmas, x.self-is)
+        | in_default-via-in-Array-Element+else-index-len x ↦ search (rules, the_lemmas, x.self-is)
         | in_default-via-in-Array+in_default x ↦ x.self-is
         | in_default-via-in-Object+in_default x ↦ x.self-is
         | in_default-via-in_default x ↦ x.self-is

@@ -16,5 +16,5 @@ pub returns-clause-at_value : goal.returns-clause-at_value
 returns-clause-at_value c =
     let n = nodes (view c.args.self.now.editor.document) in
     let m = nodes (view c.remove.new.self.document) in
-    let gone = subst (λ (l : List Text). Deletes n l (nodes null) m) c.as_ptr-2.ensures.tokens c.in_ok-remove.ensures.removed in
+    let gone = subst (λ (l : List Text). Deletes n l (nodes null) m) c.as_ptr-2.ensures.tokens c.in_ok-remove.ensures.deleted in
     parent_named n m c.args.self.now.cursor (tokens c.as_ptr.result) (tokens c.above.result) c.in_ok-parent.parent c.as_ptr.ensures.tokens c.above.ensures c.in_ok-parent.ensures gone

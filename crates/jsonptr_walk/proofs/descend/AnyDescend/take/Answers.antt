@@ -13,4 +13,4 @@ returns-clause-deleted g c =
 pub returns-clause-found : goal.returns-clause-found
 returns-clause-found g c =
     let d = c.args.self.now in
-    subst (g.D.Steps.found d []) (sym c.replace.ensures.value) (g.met.D.Steps.found_by d [] [] d (g.met.D.Document.has_root d) (g.met.D.Document.here d))
+    subst (g.D.Steps.finds d []) (sym c.replace.ensures.value) (g.met.D.Steps.found_at d [] [] d (g.met.D.Document.has_root d) (g.met.D.Document.here d))
