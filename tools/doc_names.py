@@ -7,6 +7,7 @@
 - README, `docs/ARCHITECTURE.md` and `crates/jsonptr/CALLING.md` list each crate, and each module of `jsonptr_uses`.
 - Counts of tests, mutants, cases and stored results are those of the tree, and the version is one everywhere.
 - Each word of a public contract is in `docs/SPECIFICATION.md`.
+- The documents have at most 42,000 words, without API and SPECIFICATION.
 """
 import functools
 import glob
@@ -29,6 +30,7 @@ FUNCTION = re.compile(r"^ *(?:pub(?:\(\w+\))? )?(?:const )?(?:unsafe )?(?:extern
 DEFINITION = re.compile(r"^(?:abbrev pub|pub record|pub data|pub type|postulate pub) (\w+)", re.MULTILINE)
 CITED = re.compile(r"`((?:\w+::)*\w+)`: (`\w+`(?:, `\w+`)*)")
 NUMBER = r"([\d,]+)"
+MOST_WORDS = 42_000
 errors = []
 
 
@@ -321,6 +323,12 @@ def defining(word, path):
     return []
 
 
+def check_words():
+    """Checks the number of words of the documents, without those of the page that a tool writes."""
+    words = sum(len(read(name).split()) for name in documents() if name != "docs/SPECIFICATION.md")
+    expect(words <= MOST_WORDS, "the documents", f"{words:,} words are more than {MOST_WORDS:,}")
+
+
 def main():
     known = list(repository.listed())
     for name in documents():
@@ -332,6 +340,7 @@ def main():
     check_counts()
     check_version()
     check_specification()
+    check_words()
     if errors:
         sys.exit("\n".join(f"doc_names: {error}" for error in dict.fromkeys(errors)))
     print(f"doc_names: {len(documents())} documents, {len(known)} crates, {len(definitions())} definitions, {tests()} tests")

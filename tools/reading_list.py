@@ -82,11 +82,11 @@ OTHERS = {
     "calls for C": [
         ("jsonptr_c_calls/src/pointers.rt", ["count", "token", "escape", "push", "pop"]),
         ("jsonptr_c_calls/src/documents.rt", [
-            "parse", "parse_exactly", "free", "print_at", "string_at", "node_at", "assign", "delete", "patch", "patch_with_inverse",
+            "parse", "parse_exactly", "free", "get", "string", "node", "assign", "delete", "patch", "patch_with_inverse",
             "diff",
         ]),
-        ("jsonptr_c_calls/src/texts.rt", ["print_in", "lost_number_in"]),
-        ("jsonptr_c_calls/src/locations.rt", ["locate_in", "pointer_at_in"]),
+        ("jsonptr_c_calls/src/texts.rt", ["resolve", "lost_number"]),
+        ("jsonptr_c_calls/src/locations.rt", ["locate", "pointer_at"]),
         ("jsonptr_c_calls/src/outcome.rt", ["succeed", "fail", "fail_with_length"]),
         ("jsonptr_c_calls/src/message.rt", ["message"]),
     ],

@@ -89,7 +89,7 @@ def row(path, word):
 def section(crate):
     """Returns the section of a crate: a table for each file."""
     lines = [f"\n## {crate}"]
-    for path in files(crate):
+    for path in filter(words, files(crate)):
         lines += [f"\n### `{name_of(path)}`\n", head(path), "", "| Word | Meaning |", "|---|---|"]
         lines += [row(path, word) for word in words(path)]
     return "\n".join(lines) + "\n"

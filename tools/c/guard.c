@@ -17,7 +17,7 @@ uint32_t jsonptrcore_document_parse(jsonptr_document *document, const char *text
 uint32_t jsonptrcore_document_parse_with(jsonptr_document *document, const char *text, size_t text_length, bool is_exact,
                                          jsonptr_error *error);
 void jsonptrcore_document_free(jsonptr_document *document);
-uint32_t jsonptrcore_document_print(jsonptr_document *document, const char *pointer, size_t pointer_length,
+uint32_t jsonptrcore_document_get(jsonptr_document *document, const char *pointer, size_t pointer_length,
                                     bool is_pretty, char *out, size_t capacity, size_t *length, jsonptr_error *error);
 uint32_t jsonptrcore_document_string(jsonptr_document *document, const char *pointer, size_t pointer_length, char *out,
                                      size_t capacity, size_t *length, jsonptr_error *error);
@@ -34,13 +34,13 @@ uint32_t jsonptrcore_document_patch_with_inverse(jsonptr_document *document, con
                                                  jsonptr_error *error);
 uint32_t jsonptrcore_document_diff(jsonptr_document *from, jsonptr_document *to, bool is_pretty, char *out,
                                    size_t capacity, size_t *length, jsonptr_error *error);
-uint32_t jsonptrcore_text_print(const char *text, size_t text_length, const char *pointer, size_t pointer_length,
+uint32_t jsonptrcore_resolve_in_text(const char *text, size_t text_length, const char *pointer, size_t pointer_length,
                                 bool is_pretty, char *out, size_t capacity, size_t *length, jsonptr_error *error);
-uint32_t jsonptrcore_text_lost_number(const char *text, size_t text_length, bool *found, char *out, size_t capacity,
+uint32_t jsonptrcore_lost_number_in_text(const char *text, size_t text_length, bool *found, char *out, size_t capacity,
                                       size_t *length, jsonptr_error *error);
-uint32_t jsonptrcore_text_locate(const char *text, size_t text_length, const char *pointer, size_t pointer_length,
+uint32_t jsonptrcore_locate_in_text(const char *text, size_t text_length, const char *pointer, size_t pointer_length,
                                  size_t *start, size_t *end, jsonptr_error *error);
-uint32_t jsonptrcore_text_pointer_at(const char *text, size_t text_length, size_t offset, char *out, size_t capacity,
+uint32_t jsonptrcore_pointer_at_in_text(const char *text, size_t text_length, size_t offset, char *out, size_t capacity,
                                      size_t *length, jsonptr_error *error);
 
 /* Whether a pointer and a length can be a slice: NULL only with length 0. */
@@ -68,7 +68,7 @@ static bool is_known(uint32_t flags) {
 }
 
 /* Reports a bad argument. */
-static jsonptr_status refuse(jsonptr_error *error) {
+static jsonptr_status bad_argument(jsonptr_error *error) {
     if (error != NULL) {
         *error = (jsonptr_error){ .status = JSONPTR_BAD_ARGUMENT };
     }
@@ -89,7 +89,7 @@ jsonptr_status jsonptr_error_message(const jsonptr_error *error, char *out, size
 jsonptr_status jsonptr_pointer_count(const char *pointer, size_t pointer_length, size_t *count, jsonptr_error *error) {
     unwanted none;
     if (!is_slice(pointer, pointer_length)) {
-        return refuse(error);
+        return bad_argument(error);
     }
     return jsonptrcore_pointer_count(start_of(pointer), pointer_length, OR(count, none.length), OR(error, none.error));
 }
@@ -98,7 +98,7 @@ jsonptr_status jsonptr_pointer_token(const char *pointer, size_t pointer_length,
                                      size_t capacity, size_t *length, jsonptr_error *error) {
     unwanted none;
     if (!is_slice(pointer, pointer_length) || !is_slice(out, capacity)) {
-        return refuse(error);
+        return bad_argument(error);
     }
     return jsonptrcore_pointer_token(start_of(pointer), pointer_length, position, OR(out, none.buffer), capacity,
                                      OR(length, none.length), OR(error, none.error));
@@ -108,7 +108,7 @@ jsonptr_status jsonptr_pointer_escape(const char *token, size_t token_length, ch
                                       jsonptr_error *error) {
     unwanted none;
     if (!is_slice(token, token_length) || !is_slice(out, capacity)) {
-        return refuse(error);
+        return bad_argument(error);
     }
     return jsonptrcore_pointer_escape(start_of(token), token_length, OR(out, none.buffer), capacity,
                                       OR(length, none.length), OR(error, none.error));
@@ -118,7 +118,7 @@ jsonptr_status jsonptr_pointer_push(char *buffer, size_t capacity, size_t *lengt
                                     size_t token_length, jsonptr_error *error) {
     unwanted none;
     if (length == NULL || !is_slice(buffer, capacity) || !is_slice(token, token_length)) {
-        return refuse(error);
+        return bad_argument(error);
     }
     return jsonptrcore_pointer_push(OR(buffer, none.buffer), capacity, length, start_of(token), token_length,
                                     OR(error, none.error));
@@ -127,7 +127,7 @@ jsonptr_status jsonptr_pointer_push(char *buffer, size_t capacity, size_t *lengt
 jsonptr_status jsonptr_pointer_pop(const char *pointer, size_t *length, jsonptr_error *error) {
     unwanted none;
     if (length == NULL || !is_slice(pointer, *length)) {
-        return refuse(error);
+        return bad_argument(error);
     }
     return jsonptrcore_pointer_pop(start_of(pointer), *length, length, OR(error, none.error));
 }
@@ -136,7 +136,7 @@ jsonptr_status jsonptr_document_parse(jsonptr_document *document, const char *te
                                       jsonptr_error *error) {
     unwanted none;
     if (document == NULL || !is_slice(text, text_length)) {
-        return refuse(error);
+        return bad_argument(error);
     }
     return jsonptrcore_document_parse(document, start_of(text), text_length, OR(error, none.error));
 }
@@ -145,7 +145,7 @@ jsonptr_status jsonptr_document_parse_with(jsonptr_document *document, const cha
                                            uint32_t flags, jsonptr_error *error) {
     unwanted none;
     if (document == NULL || !is_slice(text, text_length) || (flags & ~JSONPTR_EXACT_NUMBERS) != 0) {
-        return refuse(error);
+        return bad_argument(error);
     }
     return jsonptrcore_document_parse_with(document, start_of(text), text_length, flags & JSONPTR_EXACT_NUMBERS,
                                            OR(error, none.error));
@@ -166,9 +166,9 @@ jsonptr_status jsonptr_document_get(jsonptr_document *document, const char *poin
                                     uint32_t flags, char *out, size_t capacity, size_t *length, jsonptr_error *error) {
     unwanted none;
     if (document == NULL || !is_slice(pointer, pointer_length) || !is_known(flags) || !is_slice(out, capacity)) {
-        return refuse(error);
+        return bad_argument(error);
     }
-    return jsonptrcore_document_print(document, start_of(pointer), pointer_length, flags & JSONPTR_PRETTY,
+    return jsonptrcore_document_get(document, start_of(pointer), pointer_length, flags & JSONPTR_PRETTY,
                                       OR(out, none.buffer), capacity, OR(length, none.length), OR(error, none.error));
 }
 
@@ -176,7 +176,7 @@ jsonptr_status jsonptr_document_string(jsonptr_document *document, const char *p
                                        size_t capacity, size_t *length, jsonptr_error *error) {
     unwanted none;
     if (document == NULL || !is_slice(pointer, pointer_length) || !is_slice(out, capacity)) {
-        return refuse(error);
+        return bad_argument(error);
     }
     return jsonptrcore_document_string(document, start_of(pointer), pointer_length, OR(out, none.buffer), capacity,
                                        OR(length, none.length), OR(error, none.error));
@@ -186,7 +186,7 @@ jsonptr_status jsonptr_document_node(jsonptr_document *document, const char *poi
                                      jsonptr_node *node, jsonptr_error *error) {
     unwanted none;
     if (document == NULL || node == NULL || !is_slice(pointer, pointer_length)) {
-        return refuse(error);
+        return bad_argument(error);
     }
     return jsonptrcore_document_node(document, start_of(pointer), pointer_length, node, OR(error, none.error));
 }
@@ -195,7 +195,7 @@ jsonptr_status jsonptr_document_assign(jsonptr_document *document, const char *p
                                        const char *text, size_t text_length, jsonptr_error *error) {
     unwanted none;
     if (document == NULL || !is_slice(pointer, pointer_length) || !is_slice(text, text_length)) {
-        return refuse(error);
+        return bad_argument(error);
     }
     return jsonptrcore_document_assign(document, start_of(pointer), pointer_length, start_of(text), text_length,
                                        OR(error, none.error));
@@ -205,7 +205,7 @@ jsonptr_status jsonptr_document_delete(jsonptr_document *document, const char *p
                                        bool *found, jsonptr_error *error) {
     unwanted none;
     if (document == NULL || !is_slice(pointer, pointer_length)) {
-        return refuse(error);
+        return bad_argument(error);
     }
     return jsonptrcore_document_delete(document, start_of(pointer), pointer_length, OR(found, none.found),
                                        OR(error, none.error));
@@ -215,7 +215,7 @@ jsonptr_status jsonptr_document_patch(jsonptr_document *document, const char *te
                                       jsonptr_error *error) {
     unwanted none;
     if (document == NULL || !is_slice(text, text_length)) {
-        return refuse(error);
+        return bad_argument(error);
     }
     return jsonptrcore_document_patch(document, start_of(text), text_length, OR(error, none.error));
 }
@@ -225,7 +225,7 @@ jsonptr_status jsonptr_document_patch_with_inverse(jsonptr_document *document, c
                                                    jsonptr_error *error) {
     unwanted none;
     if (document == NULL || !is_slice(text, text_length) || !is_known(flags) || !is_slice(out, capacity)) {
-        return refuse(error);
+        return bad_argument(error);
     }
     return jsonptrcore_document_patch_with_inverse(document, start_of(text), text_length, flags & JSONPTR_PRETTY,
                                                    OR(out, none.buffer), capacity, OR(length, none.length),
@@ -236,7 +236,7 @@ jsonptr_status jsonptr_document_diff(jsonptr_document *from, jsonptr_document *t
                                      size_t capacity, size_t *length, jsonptr_error *error) {
     unwanted none;
     if (from == NULL || to == NULL || from == to || !is_known(flags) || !is_slice(out, capacity)) {
-        return refuse(error);
+        return bad_argument(error);
     }
     return jsonptrcore_document_diff(from, to, flags & JSONPTR_PRETTY, OR(out, none.buffer), capacity,
                                      OR(length, none.length), OR(error, none.error));
@@ -248,9 +248,9 @@ jsonptr_status jsonptr_resolve_in_text(const char *text, size_t text_length, con
     unwanted none;
     if (!is_slice(text, text_length) || !is_slice(pointer, pointer_length) || !is_known(flags) ||
         !is_slice(out, capacity)) {
-        return refuse(error);
+        return bad_argument(error);
     }
-    return jsonptrcore_text_print(start_of(text), text_length, start_of(pointer), pointer_length,
+    return jsonptrcore_resolve_in_text(start_of(text), text_length, start_of(pointer), pointer_length,
                                   flags & JSONPTR_PRETTY, OR(out, none.buffer), capacity, OR(length, none.length),
                                   OR(error, none.error));
 }
@@ -259,9 +259,9 @@ jsonptr_status jsonptr_lost_number_in_text(const char *text, size_t text_length,
                                            size_t capacity, size_t *length, jsonptr_error *error) {
     unwanted none;
     if (!is_slice(text, text_length) || !is_slice(out, capacity)) {
-        return refuse(error);
+        return bad_argument(error);
     }
-    return jsonptrcore_text_lost_number(start_of(text), text_length, OR(found, none.found), OR(out, none.buffer),
+    return jsonptrcore_lost_number_in_text(start_of(text), text_length, OR(found, none.found), OR(out, none.buffer),
                                         capacity, OR(length, none.length), OR(error, none.error));
 }
 
@@ -269,9 +269,9 @@ jsonptr_status jsonptr_locate_in_text(const char *text, size_t text_length, cons
                                       size_t *start, size_t *end, jsonptr_error *error) {
     unwanted none;
     if (!is_slice(text, text_length) || !is_slice(pointer, pointer_length)) {
-        return refuse(error);
+        return bad_argument(error);
     }
-    return jsonptrcore_text_locate(start_of(text), text_length, start_of(pointer), pointer_length,
+    return jsonptrcore_locate_in_text(start_of(text), text_length, start_of(pointer), pointer_length,
                                    OR(start, none.length), OR(end, none.end), OR(error, none.error));
 }
 
@@ -279,9 +279,9 @@ jsonptr_status jsonptr_pointer_at_in_text(const char *text, size_t text_length, 
                                           size_t *length, jsonptr_error *error) {
     unwanted none;
     if (!is_slice(text, text_length) || !is_slice(out, capacity)) {
-        return refuse(error);
+        return bad_argument(error);
     }
-    return jsonptrcore_text_pointer_at(start_of(text), text_length, offset, OR(out, none.buffer), capacity,
+    return jsonptrcore_pointer_at_in_text(start_of(text), text_length, offset, OR(out, none.buffer), capacity,
                                        OR(length, none.length), OR(error, none.error));
 }
 

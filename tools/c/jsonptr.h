@@ -37,7 +37,7 @@
  *             as before. The buffer for a result is not written to.
  *             "Returns" lists the errors in the order in which a call looks for
  *             them. JSONPTR_BAD_ARGUMENT is always the first, and is not listed
- *             where it only means NULL or a length above PTRDIFF_MAX.
+ *             where it only means NULL, a length above PTRDIFF_MAX or an unknown flag.
  *             JSONPTR_NO_MEMORY can come at any point.
  * Texts       A text is a pointer and a length in bytes. It needs no closing
  *             zero and is never written to. Texts are UTF-8. The empty text, as
@@ -154,7 +154,7 @@ typedef uint32_t jsonptr_status;
 #define JSONPTR_NOT_ASSIGNED 11u  /* the pointer leads to an array that has no such index */
 #define JSONPTR_NOT_PATCH    12u  /* the document is not a JSON Patch */
 #define JSONPTR_PATCH_FAILED 13u  /* an operation of the patch fails */
-#define JSONPTR_TOO_DEEP     14u  /* the document would nest deeper than 10,127 */
+#define JSONPTR_TOO_DEEP     14u  /* the document could nest deeper than 10,127 */
 #define JSONPTR_NOT_EXACT    15u  /* a number of a text loses digits */
 #define JSONPTR_NOT_LOCATED  16u  /* the value is in the text, but its bytes are not found */
 #define JSONPTR_NO_VALUE     17u  /* no value of the text is at the offset */
@@ -371,7 +371,7 @@ typedef struct jsonptr_document {
  * Returns   JSONPTR_OK, JSONPTR_NOT_UTF8 with offset, JSONPTR_NOT_JSON with
  *           offset, JSONPTR_NO_MEMORY. An error leaves the handle.
  * error     may be NULL.
- * Cost      linear in the text. */
+ * Cost      linear in the text, and in a document that is freed. */
 JSONPTR_API JSONPTR_NODISCARD
 jsonptr_status jsonptr_document_parse(jsonptr_document *document,
                                       const char *text, size_t text_length,
@@ -393,7 +393,8 @@ jsonptr_status jsonptr_document_parse(jsonptr_document *document,
  * Returns   those of jsonptr_document_parse, JSONPTR_NOT_EXACT with offset and
  *           length. An error leaves the handle.
  * error     may be NULL.
- * Cost      linear in the text, which JSONPTR_EXACT_NUMBERS reads twice. */
+ * Cost      linear in the text, which JSONPTR_EXACT_NUMBERS reads twice, and in a
+ *           document that is freed. */
 JSONPTR_API JSONPTR_NODISCARD
 jsonptr_status jsonptr_document_parse_with(jsonptr_document *document,
                                            const char *text, size_t text_length,
@@ -423,8 +424,8 @@ jsonptr_status jsonptr_document_print(jsonptr_document *document, uint32_t flags
  *           JSONPTR_NOT_FOUND with kind, position, slash, offset and length,
  *           JSONPTR_NO_ROOM, JSONPTR_NO_MEMORY.
  * length    may be NULL, and so may `error`.
- * Cost      linear in the pointer and in the text, and logarithmic in each
- *           object on the way. */
+ * Cost      linear in the pointer and in the text. Here and below each object on
+ *           the way takes time logarithmic in its members. */
 JSONPTR_API JSONPTR_NODISCARD
 jsonptr_status jsonptr_document_get(jsonptr_document *document,
                                     const char *pointer, size_t pointer_length,
@@ -496,7 +497,7 @@ jsonptr_status jsonptr_document_node(jsonptr_document *document,
  *           JSONPTR_NOT_ASSIGNED with kind, position, slash, offset and length,
  *           JSONPTR_NO_MEMORY. An error leaves the document.
  * error     may be NULL.
- * Cost      linear in both texts. */
+ * Cost      linear in both texts, and in a value that is replaced. */
 JSONPTR_API JSONPTR_NODISCARD
 jsonptr_status jsonptr_document_assign(jsonptr_document *document,
                                        const char *pointer, size_t pointer_length,
@@ -632,7 +633,8 @@ jsonptr_status jsonptr_resolve_in_text(const char *text, size_t text_length,
  *           offset, JSONPTR_NOT_EXACT with offset and length if the number has no
  *           pointer, since the key of a member that it is in comes again,
  *           JSONPTR_NO_ROOM, JSONPTR_NO_MEMORY. An error leaves `*found`.
- * Cost      linear in the text. */
+ * Cost      linear in the text, which is read several times. Its document is
+ *           allocated and freed on the way. */
 JSONPTR_API JSONPTR_NODISCARD
 jsonptr_status jsonptr_lost_number_in_text(const char *text, size_t text_length,
                                            bool *found,

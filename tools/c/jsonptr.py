@@ -126,7 +126,7 @@ class JsonPointerError(ValueError):
     `position` is that of the token at fault, from 0, and `slash` the offset of the slash before it. `offset` and
     `length` are the bytes at fault, in UTF-8; of a text that is not JSON, `offset` is where reading stopped. A field
     that an error does not have is 0: a pointer in a patch has no `length`. `operation` and `member` are those of a
-    patch, or None. Of a text that is not UTF-8, `member` is "pointer", "token" or "text".
+    patch, or None. Of bytes that are not UTF-8, `member` is "pointer", "token" or "text".
     """
 
     status: int = 0
@@ -155,7 +155,7 @@ class JsonPatchError(JsonPointerError):
 
 
 class TooDeep(JsonPointerError):
-    """The document would nest deeper than 10,127 levels, or the patch that takes a patch back deeper than 127."""
+    """The document could nest deeper than 10,127 levels, or the patch that takes a patch back deeper than 127."""
 
 
 class NotExact(JsonPointerError):

@@ -2,7 +2,7 @@
 
 use crate::program_error::{ProgramError, shown};
 use jptr_tasks::layout::{Layout, show};
-use jptr_tasks::patching::operations_of;
+use jptr_tasks::patch::operations_of;
 use jsonptr::{Fault, PointerBuf};
 use jsonptr_patch::{Comparison, Operation, apply_comparing};
 use serde_json::Value;
@@ -58,8 +58,8 @@ fn change(alloc: Global, document: &Value, operation: &Operation) -> Result<Stri
 }
 
 /// Returns the pointer as it is shown, or two quotes for the root.
-fn shown_pointer(alloc: Global, path: &PointerBuf) -> Result<String, AllocError> {
-    let pointer = path.as_ptr();
+fn shown_pointer(alloc: Global, pointer: &PointerBuf) -> Result<String, AllocError> {
+    let pointer = pointer.as_ptr();
     if pointer.is_root() {
         return String::from_str(alloc, "\"\"");
     }
@@ -67,8 +67,8 @@ fn shown_pointer(alloc: Global, path: &PointerBuf) -> Result<String, AllocError>
 }
 
 /// Returns the text of the value that the pointer resolves to in the document.
-fn value_at(alloc: Global, document: &Value, path: &PointerBuf) -> Result<String, AllocError> {
-    match path.as_ptr().resolve(alloc, document) {
+fn value_at(alloc: Global, document: &Value, pointer: &PointerBuf) -> Result<String, AllocError> {
+    match pointer.as_ptr().resolve(alloc, document) {
         Ok(found) => show(alloc, found, Layout::Compact),
         Err(Fault::Refused(_)) => Ok(String::new(alloc)),
         Err(Fault::Memory(error)) => Err(error),

@@ -22,7 +22,7 @@ pub fn are_colored(rt: &HostRuntime, matches: &ArgMatches<'_>) -> Result<bool, P
     match matches.get_str("color") {
         Some("always") => Ok(true),
         Some("never") => Ok(false),
-        None | Some("auto") => Ok(rt.stdout().is_terminal() && !is_refused(rt)),
+        None | Some("auto") => Ok(rt.stdout().is_terminal() && !is_turned_off(rt)),
         Some(_word) => {
             let message = "needs always, never or auto";
             Err(ProgramError::new(rt.alloc(), USAGE, "--color", message))
@@ -31,7 +31,7 @@ pub fn are_colored(rt: &HostRuntime, matches: &ArgMatches<'_>) -> Result<bool, P
 }
 
 /// Returns whether the variable `NO_COLOR` is set, and not empty.
-fn is_refused(rt: &HostRuntime) -> bool {
+fn is_turned_off(rt: &HostRuntime) -> bool {
     match env::var(rt, "NO_COLOR") {
         Ok(value) => !value.is_empty(),
         Err(_error) => false,

@@ -172,7 +172,7 @@ fn format(rt: &HostRuntime, matches: &ArgMatches<'_>) -> Result<u8, ProgramError
     if FileFormat::of(matches) == FileFormat::Commented && !matches.get_flag("lines") {
         let source = Source::open(rt, matches)?;
         source.check_bare(alloc)?;
-        return on_source(rt, &task, style, &source);
+        return on_source(rt, &source, &task, style);
     }
     run_styled(rt, matches, task, style)
 }

@@ -45,13 +45,13 @@ pub fn other_layout(alloc: Global, name: &str) -> ProgramError {
 /// it is written, or on lines if it has comments in it.
 pub fn edited_with_comments(
     alloc: Global,
-    task: &Task<'_>,
     text: &str,
     bare: &str,
+    task: &Task<'_>,
 ) -> Result<String, TaskError> {
     let mut buffers = Buffers::new(alloc);
     match task {
-        Task::Get(_, _) => found(alloc, task, text, bare),
+        Task::Get(_, _) => found(alloc, text, bare, task),
         Task::Set(pointer, raw) => {
             match assign_raw_with_comments(alloc, &mut buffers, text, *pointer, raw) {
                 Ok(new) => Ok(new),
@@ -59,13 +59,13 @@ pub fn edited_with_comments(
             }
         }
         Task::Delete(pointer) => deleted(alloc, &mut buffers, text, *pointer),
-        Task::Patch(patch) => patched(alloc, task, text, bare, patch),
+        Task::Patch(patch) => patched(alloc, text, bare, task, patch),
     }
 }
 
 /// Returns what is printed for a value that is found in the text without comments. A value that is
 /// neither an array nor an object has no comments in it.
-fn found(alloc: Global, task: &Task<'_>, text: &str, bare: &str) -> Result<String, TaskError> {
+fn found(alloc: Global, text: &str, bare: &str, task: &Task<'_>) -> Result<String, TaskError> {
     let value = text_result(alloc, bare, task, Layout::Kept)?;
     let written = value.as_str().trim_end().as_bytes();
     let is_scalar = !written.starts_with(b"[") && !written.starts_with(b"{");
@@ -93,9 +93,9 @@ fn deleted(
 /// Returns the text after the patch. Its error is that of the patch of the text without comments.
 fn patched(
     alloc: Global,
-    task: &Task<'_>,
     text: &str,
     bare: &str,
+    task: &Task<'_>,
     patch: &RawPatch,
 ) -> Result<String, TaskError> {
     let mut buffers = Buffers::new(alloc);

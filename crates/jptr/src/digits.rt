@@ -100,9 +100,9 @@ pub fn is_checked(task: &Task<'_>, style: OutputStyle) -> bool {
 /// cannot be edited in its text, it is a number of the document, or of a value that is put into it.
 pub fn loss_of(
     alloc: Global,
+    text: &str,
     task: &Task<'_>,
     style: OutputStyle,
-    text: &str,
 ) -> Result<Option<LossError>, AllocError> {
     if !is_checked(task, style) {
         return Ok(None);
@@ -125,7 +125,7 @@ pub fn loss_of(
 /// document, if there is one.
 fn loss_in_values(alloc: Global, task: &Task<'_>) -> Result<Option<LossError>, AllocError> {
     match task {
-        Task::Set(_, raw) => match find_lost(alloc, raw.text.flat.as_str())? {
+        Task::Set(_, raw) => match find_lost(alloc, raw.printed.flat.as_str())? {
             Some(lost) => Ok(Some(LossError::Value(lost))),
             None => Ok(None),
         },
@@ -151,8 +151,8 @@ fn loss_in_operations(
 
 /// Returns the first number that loses digits in the text of the value of the operation, if there is one.
 fn lost_in_operation(alloc: Global, operation: &RawOperation) -> Result<Option<Lost>, AllocError> {
-    match &operation.text {
-        Some(value) => find_lost(alloc, value.text.flat.as_str()),
+    match &operation.raw {
+        Some(value) => find_lost(alloc, value.printed.flat.as_str()),
         None => Ok(None),
     }
 }
@@ -181,16 +181,16 @@ fn first_of(in_document: Option<Lost>, in_values: Option<LossError>) -> Option<L
 /// into the document.
 pub fn check_result(
     alloc: Global,
-    task: &Task<'_>,
-    style: OutputStyle,
     name: &str,
     bytes: &[u8],
+    task: &Task<'_>,
+    style: OutputStyle,
 ) -> Result<(), ProgramError> {
     let Ok(text) = from_utf8(bytes) else {
         // The command reports it.
         return Ok(());
     };
-    match loss_of(alloc, task, style, text)? {
+    match loss_of(alloc, text, task, style)? {
         Some(loss) => Err(loss.error(alloc, name)),
         None => Ok(()),
     }

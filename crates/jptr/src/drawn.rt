@@ -3,7 +3,7 @@
 
 use crate::program_error::shown;
 use jptr_tasks::layout::{Layout, show};
-use jptr_tasks::patching::operations_of;
+use jptr_tasks::patch::operations_of;
 use jptr_tasks::task::Task;
 use jptr_tasks::task_error::TaskError;
 use jsonptr::diagnostic::Diagnostic;
@@ -21,8 +21,8 @@ const MOST_SHOWN: usize = 60;
 /// Returns what is at fault with a task that failed on the bytes, if it can be drawn.
 pub fn fault_of_task(
     alloc: Global,
-    task: &Task<'_>,
     bytes: &[u8],
+    task: &Task<'_>,
     error: &TaskError,
 ) -> Result<Option<String>, AllocError> {
     match (task, error) {

@@ -102,7 +102,7 @@ fn line_loss(
     line: &[u8],
 ) -> Result<Option<LossError>, AllocError> {
     match from_utf8(line) {
-        Ok(text) => loss_of(alloc, &exact.run.task, exact.style, text),
+        Ok(text) => loss_of(alloc, text, &exact.run.task, exact.style),
         // The run reports it.
         Err(_) => Ok(None),
     }

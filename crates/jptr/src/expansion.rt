@@ -25,9 +25,9 @@ const NO_TABLE: &str = "an array or a table on the way is missing, and --no-expa
 /// Fails if the task would create a container in the JSON text, or replace a scalar by one.
 pub fn check_expansion(
     alloc: Global,
-    task: &Task<'_>,
     name: &str,
     text: &str,
+    task: &Task<'_>,
 ) -> Result<(), ProgramError> {
     let Task::Set(pointer, _) = task else {
         return Ok(());

@@ -88,7 +88,7 @@ fn texts_of(
     let undo = undo_text(alloc, &patching, source)?;
     let style = patching.style;
     let task = Task::Patch(patching.patch);
-    let new = source_result(alloc, &task, style, source)?;
+    let new = source_result(alloc, source, &task, style)?;
     Ok(Texts { new, undo })
 }
 

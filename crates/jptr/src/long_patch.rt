@@ -31,15 +31,15 @@ pub fn patch_long(
         style.layout = Layout::Compact;
     }
     if source.has_comments() {
-        return one_by_one(rt, style, is_check, &source, patch);
+        return one_by_one(rt, &source, patch, style, is_check);
     }
-    match new_text(alloc, style, source.as_bytes(), &patch) {
+    match new_text(alloc, source.as_bytes(), &patch, style) {
         Ok(Some(_)) if is_check => Ok(0),
         Ok(Some(new)) => {
             source.put(rt, new.as_str())?;
             Ok(0)
         }
-        Ok(None) => one_by_one(rt, style, is_check, &source, patch),
+        Ok(None) => one_by_one(rt, &source, patch, style, is_check),
         Err(error) => Err(source.patch_error(alloc, &patch.document, error)),
     }
 }
@@ -47,9 +47,9 @@ pub fn patch_long(
 /// Returns the new document, or `None` if the operations have to be applied in the text, one by one.
 fn new_text(
     alloc: Global,
-    style: OutputStyle,
     bytes: &[u8],
     patch: &PatchFile<'_>,
+    style: OutputStyle,
 ) -> Result<Option<String>, TaskError> {
     let (Ok(text), Ok(given)) = (from_utf8(bytes), from_utf8(patch.source.as_bytes())) else {
         return Ok(None);
@@ -62,7 +62,7 @@ fn new_text(
             if style.layout != Layout::Kept {
                 new.push('\n')?;
             }
-            Ok(Some(indented(alloc, style, new)?))
+            Ok(Some(indented(alloc, new, style)?))
         }
         Err(TaskError::NotInPlace) => Ok(None),
         Err(error) => Err(error),
@@ -77,15 +77,15 @@ fn loses_digits(alloc: Global, text: &str) -> Result<bool, AllocError> {
 /// Applies the operations in the text.
 fn one_by_one(
     rt: &HostRuntime,
-    style: OutputStyle,
-    is_check: bool,
     source: &Source<'_>,
     patch: PatchFile<'_>,
+    style: OutputStyle,
+    is_check: bool,
 ) -> Result<u8, ProgramError> {
     let task = Task::Patch(patch.into_raw(rt.alloc())?);
     if is_check {
-        checked(rt.alloc(), &task, source)
+        checked(rt.alloc(), source, &task)
     } else {
-        on_source(rt, &task, style, source)
+        on_source(rt, source, &task, style)
     }
 }

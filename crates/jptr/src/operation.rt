@@ -9,7 +9,7 @@ use crate::value_argument::ValueArgument;
 use clap::ArgMatches;
 use jptr_tasks::exit_status::{NOT_APPLIED, USAGE};
 use jptr_tasks::node::type_in_text;
-use jptr_tasks::patching::raw_patch;
+use jptr_tasks::patch::raw_patch;
 use jptr_tasks::raw_patch::RawPatch;
 use jptr_tasks::task::Task;
 use jptr_tasks::task_error::TaskError;
@@ -41,7 +41,7 @@ pub fn insert(rt: &HostRuntime, matches: &ArgMatches<'_>) -> Result<u8, ProgramE
     check_json(alloc, "insert", matches.get_str("FILE"))?;
     let path = pointer_of(alloc, argument(matches, "POINTER"))?;
     let value = ValueArgument::read(rt, matches, argument(matches, "JSON"))?.raw(alloc)?;
-    let value = value.text.flat.as_str();
+    let value = value.printed.flat.as_str();
     let quoted = quoted(alloc, path)?;
     let patch = format!(in alloc; "[{{\"op\":\"add\",\"path\":{quoted},\"value\":{value}}}]")?;
     let operation = SingleOperation {
@@ -177,7 +177,7 @@ fn put(
     let alloc = rt.alloc();
     let style = style_of(alloc, matches)?;
     let task = Task::Patch(patch_of(alloc, operation.patch.as_str())?);
-    match tried(alloc, &task, style, source)? {
+    match tried(alloc, source, &task, style)? {
         Ok(new) => {
             source.put(rt, new.as_str())?;
             Ok(0)

@@ -2,7 +2,7 @@
 
 use crate::program_error::ProgramError;
 use crate::source::Source;
-use jptr_tasks::patching::{operations_of, raw_patch};
+use jptr_tasks::patch::{operations_of, raw_patch};
 use jptr_tasks::raw_patch::RawPatch;
 use serde_json::Value;
 use std::alloc::Global;

@@ -50,9 +50,9 @@ pub fn get_each<'a>(
     let style = style_of(alloc, matches)?;
     let source = Source::open(rt, matches)?;
     let values = if matches.get_flag("object") {
-        object_of(alloc, tasks.as_slice(), style, &source)?
+        object_of(alloc, &source, tasks.as_slice(), style)?
     } else {
-        values_of(alloc, tasks.as_slice(), style, &source)?
+        values_of(alloc, &source, tasks.as_slice(), style)?
     };
     if style.layout == Layout::Raw {
         print_text(rt, values.as_str())?;
@@ -79,13 +79,13 @@ fn get_tasks<'a>(
 /// Returns the results of the tasks on the document, one after another.
 fn values_of(
     alloc: Global,
+    source: &Source<'_>,
     tasks: &[Task<'_>],
     style: OutputStyle,
-    source: &Source<'_>,
 ) -> Result<String, ProgramError> {
     let mut values = String::new(alloc);
     for task in tasks {
-        let value = source_result(alloc, task, style, source)?;
+        let value = source_result(alloc, source, task, style)?;
         values.push_str(value.as_str())?;
     }
     Ok(values)
@@ -94,21 +94,21 @@ fn values_of(
 /// Returns one object of the results of the tasks on the document. Its keys are the pointers.
 fn object_of(
     alloc: Global,
+    source: &Source<'_>,
     tasks: &[Task<'_>],
     style: OutputStyle,
-    source: &Source<'_>,
 ) -> Result<String, ProgramError> {
     let mut object = String::new(alloc);
     let mut before = "{";
     for task in tasks {
-        let value = source_result(alloc, task, style.for_edit(), source)?;
+        let value = source_result(alloc, source, task, style.for_edit())?;
         object.push_str(before)?;
         push_member(alloc, &mut object, task, value.as_str().trim_end())?;
         before = ", ";
     }
     object.push('}')?;
     let whole = Task::Get(Pointer::root(), None);
-    result_of(alloc, &whole, style, source.name, object.as_bytes())
+    result_of(alloc, source.name, object.as_bytes(), &whole, style)
 }
 
 /// Appends the member of a value that a task found.
@@ -194,41 +194,41 @@ fn edit_each(
     if style.layout != Layout::Kept {
         source.check_bare(alloc)?;
     }
-    let edited = edited_by_each(alloc, tasks, style, expands, &source)?;
-    source.put(rt, laid_out(alloc, style, source.name, edited)?.as_str())?;
+    let edited = edited_by_each(alloc, &source, tasks, style, expands)?;
+    source.put(rt, laid_out(alloc, source.name, edited, style)?.as_str())?;
     Ok(0)
 }
 
 /// Returns the text of the document with this name in the layout of the style.
 fn laid_out(
     alloc: Global,
-    style: OutputStyle,
     name: &str,
     text: String,
+    style: OutputStyle,
 ) -> Result<String, ProgramError> {
     if style.layout == Layout::Kept {
         return Ok(text);
     }
     let whole = Task::Get(Pointer::root(), None);
-    result_of(alloc, &whole, style, name, text.as_bytes())
+    result_of(alloc, name, text.as_bytes(), &whole, style)
 }
 
 /// Returns the text of the document after the tasks, one after another. Each is done in the text if that
 /// is possible.
 fn edited_by_each(
     alloc: Global,
+    source: &Source<'_>,
     tasks: &[Task<'_>],
     style: OutputStyle,
     expands: bool,
-    source: &Source<'_>,
 ) -> Result<String, ProgramError> {
     let mut text = source.whole_text(alloc)?;
     for task in tasks {
         let before = Source::of(alloc, source.name, source.format, text.into_bytes())?;
         if !expands {
-            check_expansion(alloc, task, before.name, before.text(alloc)?)?;
+            check_expansion(alloc, before.name, before.text(alloc)?, task)?;
         }
-        text = source_result(alloc, task, style.for_edit(), &before)?;
+        text = source_result(alloc, &before, task, style.for_edit())?;
     }
     Ok(text)
 }

@@ -105,7 +105,7 @@ fn indent_of(alloc: Global, text: &str) -> Result<&'static str, ProgramError> {
 }
 
 /// Returns what is printed, with the indentation of the style.
-pub fn indented(alloc: Global, style: OutputStyle, printed: String) -> Result<String, TaskError> {
+pub fn indented(alloc: Global, printed: String, style: OutputStyle) -> Result<String, TaskError> {
     let Some(indent) = style.indent else {
         return Ok(printed);
     };

@@ -45,11 +45,11 @@ pub fn run_styled(
 ) -> Result<u8, ProgramError> {
     let file = file_of(matches);
     if matches.get_flag("check") {
-        checked(rt.alloc(), &task, &Source::open(rt, matches)?)
+        checked(rt.alloc(), &Source::open(rt, matches)?, &task)
     } else if matches.get_flag("lines") {
         on_lines(rt, matches, task, style)
     } else if is_read_first(matches, &task, style) || are_colored(rt, matches)? {
-        on_source(rt, &task, style, &Source::open(rt, matches)?)
+        on_source(rt, &Source::open(rt, matches)?, &task, style)
     } else {
         on_document(rt, &task, style, file)
     }
@@ -65,12 +65,12 @@ fn is_read_first(matches: &ArgMatches<'_>, task: &Task<'_>, style: OutputStyle) 
 }
 
 /// Runs the task on a document that is read, and prints nothing.
-pub fn checked(alloc: Global, task: &Task<'_>, source: &Source<'_>) -> Result<u8, ProgramError> {
+pub fn checked(alloc: Global, source: &Source<'_>, task: &Task<'_>) -> Result<u8, ProgramError> {
     match document_result(alloc, source.as_bytes(), task, Layout::Kept) {
         Ok(_new) => Ok(0),
         // The operations apply, but not in place.
         Err(TaskError::NotInPlace) => Ok(0),
-        Err(error) => Err(task_error(alloc, task, source.name, source.as_bytes(), error)),
+        Err(error) => Err(task_error(alloc, source.name, source.as_bytes(), task, error)),
     }
 }
 
@@ -90,16 +90,16 @@ fn on_document(
         Err(TaskError::Read) => Err(input.read_error(alloc, name_of(file))),
         Err(TaskError::Write) => Err(output.error(alloc)),
         Err(TaskError::NotInPlace) if style.reformats => {
-            let new = result_of(alloc, task, style, name_of(file), &bytes)?;
+            let new = result_of(alloc, name_of(file), &bytes, task, style)?;
             print_text(rt, new.as_str())?;
             Ok(0)
         }
         Err(error) => {
             let source = Source::of(alloc, name_of(file), FileFormat::Json, bytes)?;
             if source.has_mark {
-                return on_source(rt, task, style, &source);
+                return on_source(rt, &source, task, style);
             }
-            Err(task_error(alloc, task, source.name, source.as_bytes(), error))
+            Err(task_error(alloc, source.name, source.as_bytes(), task, error))
         }
     }
 }
@@ -108,11 +108,11 @@ fn on_document(
 /// file by it.
 pub fn on_source(
     rt: &HostRuntime,
+    source: &Source<'_>,
     task: &Task<'_>,
     style: OutputStyle,
-    source: &Source<'_>,
 ) -> Result<u8, ProgramError> {
-    let new = source_result(rt.alloc(), task, style, source)?;
+    let new = source_result(rt.alloc(), source, task, style)?;
     match task {
         Task::Get(_, _) if style.layout == Layout::Raw => print_text(rt, new.as_str())?,
         Task::Get(_, _) if source.target.is_none() => source.print(rt, new.as_str())?,
@@ -124,13 +124,13 @@ pub fn on_source(
 /// Returns the document after the task, with its comments. Fails if the task loses digits of a number.
 pub fn source_result(
     alloc: Global,
+    source: &Source<'_>,
     task: &Task<'_>,
     style: OutputStyle,
-    source: &Source<'_>,
 ) -> Result<String, ProgramError> {
-    match tried(alloc, task, style, source)? {
+    match tried(alloc, source, task, style)? {
         Ok(new) => Ok(new),
-        Err(error) => Err(task_error(alloc, task, source.name, source.as_bytes(), error)),
+        Err(error) => Err(task_error(alloc, source.name, source.as_bytes(), task, error)),
     }
 }
 
@@ -138,16 +138,16 @@ pub fn source_result(
 /// would lose digits of a number, or comments.
 pub fn tried(
     alloc: Global,
+    source: &Source<'_>,
     task: &Task<'_>,
     style: OutputStyle,
-    source: &Source<'_>,
 ) -> Result<Result<String, TaskError>, ProgramError> {
     match source.commented_text() {
-        Some(commented) if keeps_comments(task, style, source) => {
+        Some(commented) if keeps_comments(source, task, style) => {
             if style.layout != Layout::Kept {
                 return Err(other_layout(alloc, source.name));
             }
-            match edited_with_comments(alloc, task, commented.text, commented.bare) {
+            match edited_with_comments(alloc, commented.text, commented.bare, task) {
                 Err(TaskError::NotInPlace) => Err(not_in_place(
                     alloc,
                     source.name,
@@ -159,14 +159,14 @@ pub fn tried(
             }
         }
         _ => {
-            check_result(alloc, task, style, source.name, source.as_bytes())?;
-            Ok(edited(alloc, task, style, source.as_bytes()))
+            check_result(alloc, source.name, source.as_bytes(), task, style)?;
+            Ok(edited(alloc, source.as_bytes(), task, style))
         }
     }
 }
 
 /// Returns whether the result of the task has the comments of the document, or may be a text of it.
-fn keeps_comments(task: &Task<'_>, style: OutputStyle, source: &Source<'_>) -> bool {
+fn keeps_comments(source: &Source<'_>, task: &Task<'_>, style: OutputStyle) -> bool {
     match task {
         Task::Get(_, _) => source.target.is_some() || style.layout == Layout::Kept,
         Task::Set(_, _) | Task::Delete(_) | Task::Patch(_) => true,
@@ -177,15 +177,15 @@ fn keeps_comments(task: &Task<'_>, style: OutputStyle, source: &Source<'_>) -> b
 /// digits of a number.
 pub fn result_of(
     alloc: Global,
-    task: &Task<'_>,
-    style: OutputStyle,
     name: &str,
     bytes: &[u8],
+    task: &Task<'_>,
+    style: OutputStyle,
 ) -> Result<String, ProgramError> {
-    check_result(alloc, task, style, name, bytes)?;
-    match edited(alloc, task, style, bytes) {
+    check_result(alloc, name, bytes, task, style)?;
+    match edited(alloc, bytes, task, style) {
         Ok(new) => Ok(new),
-        Err(error) => Err(task_error(alloc, task, name, bytes, error)),
+        Err(error) => Err(task_error(alloc, name, bytes, task, error)),
     }
 }
 
@@ -193,12 +193,12 @@ pub fn result_of(
 /// place.
 pub fn edited(
     alloc: Global,
+    bytes: &[u8],
     task: &Task<'_>,
     style: OutputStyle,
-    bytes: &[u8],
 ) -> Result<String, TaskError> {
     match document_result(alloc, bytes, task, style.layout) {
-        Ok(new) => indented(alloc, style, new),
+        Ok(new) => indented(alloc, new, style),
         Err(TaskError::NotInPlace) if style.reformats => {
             document_result(alloc, bytes, task, Layout::Compact)
         }
@@ -210,12 +210,12 @@ pub fn edited(
 /// fault.
 fn task_error(
     alloc: Global,
-    task: &Task<'_>,
     name: &str,
     bytes: &[u8],
+    task: &Task<'_>,
     error: TaskError,
 ) -> ProgramError {
-    let drawing = fault_of_task(alloc, task, bytes, &error);
+    let drawing = fault_of_task(alloc, bytes, task, &error);
     document_error(alloc, name, bytes, pointer_text(task), error).with_drawing(drawing)
 }
 

@@ -52,7 +52,7 @@ use Rattle.jptr_tasks.specs.declared.task.Task.TheVariants.{Get, Set, Delete, Pa
 -- ---- edits in place
 
 pub set_kept : (text : Text) (ts : List Text) (raw : RawValue) (out : Text)
-    → AssignsInText text ts (nodes (value_of_raw raw)) out → AssignsBytes text ts (value_of_raw raw) out → Carries (string_bytes raw.text.flat) out → StaysOneLine text out → Sets text ts raw Kept out
+    → AssignsInText text ts (nodes (value_of_raw raw)) out → AssignsBytes text ts (value_of_raw raw) out → Carries (string_bytes raw.printed.flat) out → StaysOneLine text out → Sets text ts raw Kept out
 set_kept text ts raw out meaning bytes carries line = (out, meaning, refl, λ e. (bytes, carries, line))
 
 pub patch_kept : (text : Text) (p : RawPatch) (r : Result (String Global) TaskError)

@@ -47,7 +47,7 @@ abbrev pub Sets : Text → List Text → RawValue → Layout → Text → Type 0
 Sets text ts raw layout out =
     (new : Text) × AssignsInText text ts (nodes (value_of_raw raw)) new × Lays layout new out
     × (layout ≡ Kept
-    → AssignsBytes text ts (value_of_raw raw) new × Carries (string_bytes raw.text.flat) new × StaysOneLine text new)
+    → AssignsBytes text ts (value_of_raw raw) new × Carries (string_bytes raw.printed.flat) new × StaysOneLine text new)
 
 -- `DeletesInLayout text ts layout out`: `out` is the document of `text` without the value at the tokens, in this layout. In the
 -- layout `Kept` only the bytes of the deletion change, and a text of one line stays one line

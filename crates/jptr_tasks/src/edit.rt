@@ -54,7 +54,7 @@ fn set_in_place(
     ensures refused { IfErr result
         (FailsToSet text.now (tokens pointer.entry) (value_of_raw raw.now) Layout.Kept) }
 {
-    let alloc = *raw.text.flat.allocator();
+    let alloc = *raw.printed.flat.allocator();
     match assign_raw_in_place(alloc, buffers, text, pointer, raw) {
         Ok(new) => Ok(new),
         Err(error) => Err(TaskError::from(error)),
@@ -75,7 +75,7 @@ fn set_anew(
     ensures refused { IfErr result
         (FailsToSet text.now (tokens pointer.entry) (value_of_raw raw.now) layout) }
 {
-    let alloc = *raw.text.flat.allocator();
+    let alloc = *raw.printed.flat.allocator();
     let edited = assign_raw_in_text_with(alloc, buffers, text, pointer, raw)?;
     lay_out(alloc, &mut buffers.old, edited.as_str(), layout)
 }

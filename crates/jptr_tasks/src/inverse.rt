@@ -9,7 +9,7 @@ ghost use Rattle.jptr_tasks.specs.PrivateResults.{IsApplyFault};
 
 use crate::difference::{PatchText, patch_text};
 use crate::layout::{Layout, read_document};
-use crate::patching::operations_of;
+use crate::patch::operations_of;
 use crate::task_error::TaskError;
 use jsonptr::Fault;
 use jsonptr_patch::{Comparison, Operation, apply_comparing_with_inverse};
@@ -50,7 +50,7 @@ pub fn inverse_of(
 {
     let operations = operations_of(alloc, patch)?;
     let mut document = read_document(alloc, text)?;
-    let inverse = apply_with_inverse(alloc, &mut document, operations)?;
+    let inverse = apply_numerically_with_inverse(alloc, &mut document, operations)?;
     let text = patch_text(alloc, &inverse, layout)?;
     let is_empty = inverse.is_empty();
     Ok(PatchText { text, is_empty })
@@ -61,7 +61,7 @@ pub fn inverse_of(
 /// # Errors
 ///
 /// [`TaskError::PatchFailed`] if an operation fails, and [`TaskError::Memory`] if an allocation fails.
-fn apply_with_inverse(
+fn apply_numerically_with_inverse(
     alloc: Global,
     document: &mut Value,
     operations: Vec<Operation>,

@@ -10,7 +10,7 @@
 //! - [`line`]: a task on one line, and [`lines`]: on each line of an input.
 //! - [`node`]: the type, the length and the keys of a value, and whether it equals another one.
 //! - [`paths`]: a document as lines of pointers and values, and a document from such lines.
-//! - [`patching`]: applying a patch document, and [`long_patch`]: one of many operations.
+//! - [`patch`]: applying a patch document, and [`long_patch`]: one of many operations.
 //! - [`raw_patch`]: a patch document, with the texts of its values.
 //! - [`replacement`]: replacing the text of a file, whatever moment the system stops at.
 //! - [`task_error`]: the errors, and the exit status of each.
@@ -30,7 +30,7 @@ pub mod line;
 pub mod lines;
 pub mod long_patch;
 pub mod node;
-pub mod patching;
+pub mod patch;
 pub mod paths;
 pub mod raw_patch;
 pub mod replacement;

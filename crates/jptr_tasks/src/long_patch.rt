@@ -8,7 +8,7 @@ ghost use Rattle.jptr_tasks.specs.Results.{PatchesInLayout, FailsToPatch};
 ghost use Rattle.jptr_tasks.specs.PrivateResults.{PatchedBy, Remakes, ReadsSame};
 
 use crate::layout::{Layout, lay_out, read_document};
-use crate::patching::print_anew;
+use crate::patch::print_anew;
 use crate::task_error::TaskError;
 use jsonptr_edit_in_text::stays_one_line;
 use jsonptr_in_text::Scratch;
@@ -21,7 +21,7 @@ use std::alloc::{AllocError, Global};
 ///
 /// The operations are applied to the document that the text is, and the new document is laid out as the
 /// text is, as [`relayout_with_texts`] does it. So the time is in proportion to the text and the patch, and
-/// not to their product as for [`patch`](crate::patching::patch), which edits the text once for each
+/// not to their product as for [`patch`](crate::patch::patch), which edits the text once for each
 /// operation. Of the bytes nothing is promised, except that with [`Layout::Kept`] a text of one line
 /// stays one line.
 ///

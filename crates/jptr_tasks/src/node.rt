@@ -129,7 +129,7 @@ pub fn equals_in_text(
     ensures refused { IfErr result (FailsToFind text.now (tokens pointer.entry)) }
 {
     let found = found_value(alloc, text, pointer)?;
-    Ok(is_equal(Comparison::Numeric, &found, value))
+    Ok(is_equal(&found, value, Comparison::Numeric))
 }
 
 /// Returns the type of the scalar that an assignment at the pointer would replace by a container. Returns

@@ -9,7 +9,7 @@ use serde_json::Value;
 
 /// A patch document (RFC 6902), and its operations with the texts of their values.
 ///
-/// [`raw_patch`](crate::patching::raw_patch) reads one.
+/// [`raw_patch`](crate::patch::raw_patch) reads one.
 #[derive(Debug, Drop)]
 pub struct RawPatch {
     /// The document.

@@ -97,6 +97,10 @@ pub enum Replaced<E: Drop> {
 ///
 /// That of the first call that fails, up to the rename. The file has the old text, and the temporary
 /// file is removed.
+///
+/// # Conditions
+///
+/// No call was made yet: the events of the system are empty.
 pub fn replace<S: FileSystem>(system: &mut S) -> Result<Replaced<S::Error>, S::Error>
     requires { S.events system.old ≡ [] }
     ensures moments { AtEachMoment (S.events system.new) }

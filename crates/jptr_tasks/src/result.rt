@@ -5,7 +5,7 @@ ghost use Rattle.jptr_tasks.specs.Results.{Yields, Fails, Gets, FailsToGet};
 
 use crate::edit::{delete, set};
 use crate::layout::{Layout, lay_out, show};
-use crate::patching::patch;
+use crate::patch::patch;
 use crate::task::Task;
 use crate::task_error::TaskError;
 use jsonptr::Pointer;

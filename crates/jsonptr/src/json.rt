@@ -24,6 +24,6 @@ impl Resolve for Value {
     ghost needs_no_memory = { λ v tokens. HasNoTilde (text tokens) };
 
     fn resolve(&self, alloc: Global, ptr: Pointer<'_>) -> Result<&Value, Fault<Error>> {
-        find(self, alloc, ptr)
+        find(alloc, self, ptr)
     }
 }

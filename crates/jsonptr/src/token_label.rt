@@ -40,13 +40,13 @@ pub(crate) fn token_label<W: fmt::Display>(
 ///
 /// An empty last token starts at its slash, since no byte follows. Returns `None` if there is no
 /// token at this position, or if the offset after the slash does not fit `usize`.
-fn span_of(ptr: Pointer<'_>, position: usize, offset: usize) -> Option<(usize, usize)>
+fn span_of(pointer: Pointer<'_>, position: usize, offset: usize) -> Option<(usize, usize)>
     ensures { MatchOption result
-        (HasNoSpan (tokens ptr.entry) position offset)
-        (λ r. IsSpan (tokens ptr.entry) position offset r.0 r.1) }
+        (HasNoSpan (tokens pointer.entry) position offset)
+        (λ r. IsSpan (tokens pointer.entry) position offset r.0 r.1) }
 {
-    let token = ptr.get(position)?;
-    let behind = offset.checked_add(1)?;
-    let start = if behind < ptr.len() { behind } else { offset };
+    let token = pointer.get(position)?;
+    let after = offset.checked_add(1)?;
+    let start = if after < pointer.len() { after } else { offset };
     Some((start, token.encoded().len()))
 }

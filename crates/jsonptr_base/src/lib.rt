@@ -1,7 +1,7 @@
 //! Faults, reference tokens and array indices (RFC 6901, sections 3 and 4): the parts of `jsonptr`
 //! that need neither pointers nor documents.
 //!
-//! The crate `jsonptr` re-exports these modules under its own paths.
+//! The crate `jsonptr` re-exports `index`, `token`, the type `Fault` and the laws.
 #![tactic(auto)]
 
 pub mod fault;

@@ -14,19 +14,15 @@ ghost use Rattle.jsonptr_c_calls.specs.Failures.{FailsOnHandle, IsNotParsed, IsN
 ghost use Rattle.jsonptr_c_calls.specs.InTexts.{FindsTextIn, IsNotPrintedFrom};
 ghost use Rattle.jsonptr_c_calls.specs.Nodes.{FindsNode};
 ghost use Rattle.jsonptr_c_calls.specs.Outcomes.{IsLengthOf, Reports};
-ghost use Rattle.jsonptr_c_calls.specs.Patches.{AppliesText, AppliesWithBack, IsDiffText, IsNotApplied, IsNotAppliedWithBack, IsNotCompared, IsNotPatchText};
+ghost use Rattle.jsonptr_c_calls.specs.Patches.{AppliesText, AppliesWithInverse, IsDiffText, IsNotApplied, IsNotAppliedWithInverse, IsNotCompared, IsNotPatchText};
 ghost use Rattle.jsonptr_c_calls.specs.ErrorNumbers.{no_error};
 ghost use Rattle.jsonptr_c_calls.specs.Values.{Changes, FindsTextOf, FindsString, HoldsWith, ReadsInto, format_of};
 ghost use Rattle.jsonptr_c_calls.specs.declared.call_error.CallError.{CallError};
 
-use jsonptr_c_calls::documents::{
-    assign, delete, diff, free, node_at, parse, parse_exactly, patch, patch_with_inverse, print_at,
-    string_at,
-};
 use jsonptr_c_calls::error_numbers::ErrorRecord;
 use jsonptr_c_calls::node::NodeInfo;
 use jsonptr_c_calls::outcome::{fail, fail_with_length, succeed};
-use jsonptr_c_calls::texts::{lost_number_in, print_in};
+use jsonptr_c_calls::{documents, texts};
 use jsonptr_c_handle::handle::Handle;
 use jsonptr_in_text::Format;
 use std::alloc::Global;
@@ -57,7 +53,7 @@ pub extern "C" fn jsonptrcore_document_parse(
         × IsNotParsed text.now e }
     ensures unchanged { result ≢ 0 → document.new ≡ document.old }
 {
-    match parse(alloc, document, text) {
+    match documents::parse(alloc, document, text) {
         Ok(()) => succeed(error),
         Err(call_error) => fail(&call_error, b"", error),
     }
@@ -81,12 +77,12 @@ pub extern "C" fn jsonptrcore_document_parse_with(
     ensures unchanged { result ≢ 0 → document.new ≡ document.old }
 {
     if is_exact {
-        return match parse_exactly(alloc, document, text) {
+        return match documents::parse_exactly(alloc, document, text) {
             Ok(()) => succeed(error),
             Err(call_error) => fail(&call_error, b"", error),
         };
     }
-    match parse(alloc, document, text) {
+    match documents::parse(alloc, document, text) {
         Ok(()) => succeed(error),
         Err(call_error) => fail(&call_error, b"", error),
     }
@@ -97,12 +93,12 @@ pub extern "C" fn jsonptrcore_document_parse_with(
 pub extern "C" fn jsonptrcore_document_free(alloc: Global, document: &mut Handle)
     ensures { IsEmpty document.new }
 {
-    free(alloc, document);
+    documents::free(alloc, document);
 }
 
 /// Copies the JSON text of the value at the pointer to the buffer.
 #[unsafe(no_mangle)]
-pub extern "C" fn jsonptrcore_document_print(
+pub extern "C" fn jsonptrcore_document_get(
     alloc: Global,
     document: &mut Handle,
     pointer: &[u8],
@@ -121,7 +117,7 @@ pub extern "C" fn jsonptrcore_document_print(
     ensures length { result ≢ 0 → IsLengthOf error.new length.old length.new }
     ensures unchanged { Keeps document.old document.new }
 {
-    match print_at(alloc, document, pointer, format_for(is_pretty), out) {
+    match documents::get(alloc, document, pointer, format_for(is_pretty), out) {
         Ok(copied) => {
             *length = copied;
             succeed(error)
@@ -150,7 +146,7 @@ pub extern "C" fn jsonptrcore_document_string(
     ensures length { result ≢ 0 → IsLengthOf error.new length.old length.new }
     ensures unchanged { Keeps document.old document.new }
 {
-    match string_at(alloc, document, pointer, out) {
+    match documents::string(alloc, document, pointer, out) {
         Ok(copied) => {
             *length = copied;
             succeed(error)
@@ -175,7 +171,7 @@ pub extern "C" fn jsonptrcore_document_node(
         × FailsOnHandle document.old (λ v. Unfound (view v) pointer.now e) e }
     ensures unchanged { Keeps document.old document.new }
 {
-    match node_at(alloc, document, pointer) {
+    match documents::node(alloc, document, pointer) {
         Ok(found) => {
             *node = found;
             succeed(error)
@@ -202,7 +198,7 @@ pub extern "C" fn jsonptrcore_document_assign(
         × IsTextNotAssigned text.now document.old pointer.now e }
     ensures unchanged { result ≢ 0 → Keeps document.old document.new }
 {
-    match assign(alloc, document, pointer, text) {
+    match documents::assign(alloc, document, pointer, text) {
         Ok(()) => succeed(error),
         Err(call_error) => fail(&call_error, pointer, error),
     }
@@ -226,7 +222,7 @@ pub extern "C" fn jsonptrcore_document_delete(
         × FailsOnHandle document.old (λ v. IsNotDeleted pointer.now e) e }
     ensures unchanged { result ≢ 0 → Keeps document.old document.new }
 {
-    match delete(alloc, document, pointer) {
+    match documents::delete(alloc, document, pointer) {
         Ok(deleted) => {
             *found = deleted;
             succeed(error)
@@ -252,7 +248,7 @@ pub extern "C" fn jsonptrcore_document_patch(
         × (IsNotPatchText text.now e ⊎ IsNotApplied text.now document.old e) }
     ensures unchanged { result ≢ 0 → Keeps document.old document.new }
 {
-    match patch(alloc, document, text) {
+    match documents::patch(alloc, document, text) {
         Ok(()) => succeed(error),
         Err(call_error) => fail(&call_error, b"", error),
     }
@@ -272,18 +268,18 @@ pub extern "C" fn jsonptrcore_document_patch_with_inverse(
 ) -> u32
     ensures no_error { result ≡ 0 → error.new ≡ no_error }
     ensures applied { result ≡ 0 → Changes document.old (λ d n.
-        AppliesWithBack (format_of is_pretty) text.now d n (take length.new out.new))
+        AppliesWithInverse (format_of is_pretty) text.now d n (take length.new out.new))
         document.new }
     ensures bounded { result ≡ 0
         → Changes document.old (λ d n. IsBounded d → IsBounded n) document.new }
     ensures refused { result ≢ 0 → (e : CallError) × Reports e [] result error.new
-        × (IsNotPatchText text.now e ⊎ IsNotAppliedWithBack (format_of is_pretty) text.now
+        × (IsNotPatchText text.now e ⊎ IsNotAppliedWithInverse (format_of is_pretty) text.now
         document.old (list_length out.old) e) }
     ensures output_unchanged { result ≢ 0 → out.new ≡ out.old }
     ensures length { result ≢ 0 → IsLengthOf error.new length.old length.new }
     ensures unchanged { result ≢ 0 → Keeps document.old document.new }
 {
-    match patch_with_inverse(alloc, document, text, format_for(is_pretty), out) {
+    match documents::patch_with_inverse(alloc, document, text, format_for(is_pretty), out) {
         Ok(copied) => {
             *length = copied;
             succeed(error)
@@ -314,7 +310,7 @@ pub extern "C" fn jsonptrcore_document_diff(
     ensures old_unchanged { Keeps old.old old.new }
     ensures new_unchanged { Keeps new.old new.new }
 {
-    match diff(alloc, old, new, format_for(is_pretty), out) {
+    match documents::diff(alloc, old, new, format_for(is_pretty), out) {
         Ok(copied) => {
             *length = copied;
             succeed(error)
@@ -325,7 +321,7 @@ pub extern "C" fn jsonptrcore_document_diff(
 
 /// Copies the JSON text of the value at the pointer in a JSON text to the buffer.
 #[unsafe(no_mangle)]
-pub extern "C" fn jsonptrcore_text_print(
+pub extern "C" fn jsonptrcore_resolve_in_text(
     alloc: Global,
     text: &[u8],
     pointer: &[u8],
@@ -342,7 +338,7 @@ pub extern "C" fn jsonptrcore_text_print(
     ensures output_unchanged { result ≢ 0 → out.new ≡ out.old }
     ensures length { result ≢ 0 → IsLengthOf error.new length.old length.new }
 {
-    match print_in(alloc, text, pointer, format_for(is_pretty), out) {
+    match texts::resolve(alloc, text, pointer, format_for(is_pretty), out) {
         Ok(copied) => {
             *length = copied;
             succeed(error)
@@ -354,7 +350,7 @@ pub extern "C" fn jsonptrcore_text_print(
 /// Copies the pointer of the first number of a JSON text that loses digits to the buffer, if there is
 /// one.
 #[unsafe(no_mangle)]
-pub extern "C" fn jsonptrcore_text_lost_number(
+pub extern "C" fn jsonptrcore_lost_number_in_text(
     alloc: Global,
     text: &[u8],
     found: &mut bool,
@@ -372,7 +368,7 @@ pub extern "C" fn jsonptrcore_text_lost_number(
     ensures length { result ≢ 0 → IsLengthOf error.new length.old length.new }
     ensures found_unchanged { result ≢ 0 → found.new ≡ found.old }
 {
-    match lost_number_in(alloc, text, out) {
+    match texts::lost_number(alloc, text, out) {
         Ok(Some(copied)) => {
             *found = true;
             *length = copied;

@@ -6,14 +6,14 @@ ghost use Rattle.jsonptr_c_calls.specs.Outcomes.{IsLengthOf, Reports};
 ghost use Rattle.jsonptr_c_calls.specs.declared.call_error.CallError.{CallError};
 
 use jsonptr_c_calls::error_numbers::ErrorRecord;
-use jsonptr_c_calls::locations::{locate_in, pointer_at_in};
+use jsonptr_c_calls::locations::{locate, pointer_at};
 use jsonptr_c_calls::outcome::{fail, fail_with_length, succeed};
 use std::alloc::Global;
 
 /// Writes the offset of the first byte of the value at the pointer in a JSON text, and that after its
 /// last byte.
 #[unsafe(no_mangle)]
-pub extern "C" fn jsonptrcore_text_locate(
+pub extern "C" fn jsonptrcore_locate_in_text(
     alloc: Global,
     text: &[u8],
     pointer: &[u8],
@@ -27,7 +27,7 @@ pub extern "C" fn jsonptrcore_text_locate(
         × IsNotLocated text.now pointer.now e }
     ensures output_unchanged { result ≢ 0 → (start.new ≡ start.old) × (end.new ≡ end.old) }
 {
-    match locate_in(alloc, text, pointer) {
+    match locate(alloc, text, pointer) {
         Ok(span) => {
             *start = span.start;
             *end = span.end;
@@ -39,7 +39,7 @@ pub extern "C" fn jsonptrcore_text_locate(
 
 /// Copies the pointer of the value at the offset in a JSON text to the buffer.
 #[unsafe(no_mangle)]
-pub extern "C" fn jsonptrcore_text_pointer_at(
+pub extern "C" fn jsonptrcore_pointer_at_in_text(
     alloc: Global,
     text: &[u8],
     offset: usize,
@@ -54,7 +54,7 @@ pub extern "C" fn jsonptrcore_text_pointer_at(
     ensures output_unchanged { result ≢ 0 → out.new ≡ out.old }
     ensures length { result ≢ 0 → IsLengthOf error.new length.old length.new }
 {
-    match pointer_at_in(alloc, text, offset, out) {
+    match pointer_at(alloc, text, offset, out) {
         Ok(copied) => {
             *length = copied;
             succeed(error)

@@ -9,24 +9,24 @@ ghost use Rattle.jsonptr_c_calls.specs.declared.call_error.CallError.{CallError}
 
 use jsonptr_c_calls::error_numbers::ErrorRecord;
 use jsonptr_c_calls::outcome::{fail, fail_with_length, succeed};
-use jsonptr_c_calls::pointers::{count, escape, pop, push, token};
+use jsonptr_c_calls::pointers;
 use std::alloc::Global;
 
 /// Counts the tokens of the pointer.
 #[unsafe(no_mangle)]
 pub extern "C" fn jsonptrcore_pointer_count(
     pointer: &[u8],
-    tokens: &mut usize,
+    count: &mut usize,
     error: &mut ErrorRecord,
 ) -> u32
     ensures no_error { result ≡ 0 → error.new ≡ no_error }
-    ensures count { result ≡ 0 → HasCount pointer.now tokens.new }
+    ensures count { result ≡ 0 → HasCount pointer.now count.new }
     ensures refused { result ≢ 0 → (e : CallError) × Reports e pointer.now result error.new
         × IsNoPointer pointer.now e }
 {
-    match count(pointer) {
+    match pointers::count(pointer) {
         Ok(found) => {
-            *tokens = found;
+            *count = found;
             succeed(error)
         }
         Err(call_error) => fail(&call_error, pointer, error),
@@ -50,7 +50,7 @@ pub extern "C" fn jsonptrcore_pointer_token(
     ensures output_unchanged { result ≢ 0 → out.new ≡ out.old }
     ensures length { result ≢ 0 → IsLengthOf error.new length.old length.new }
 {
-    match token(alloc, pointer, position, out) {
+    match pointers::token(alloc, pointer, position, out) {
         Ok(copied) => {
             *length = copied;
             succeed(error)
@@ -63,19 +63,19 @@ pub extern "C" fn jsonptrcore_pointer_token(
 #[unsafe(no_mangle)]
 pub extern "C" fn jsonptrcore_pointer_escape(
     alloc: Global,
-    text: &[u8],
+    token: &[u8],
     out: &mut [u8],
     length: &mut usize,
     error: &mut ErrorRecord,
 ) -> u32
     ensures no_error { result ≡ 0 → error.new ≡ no_error }
-    ensures escaped { result ≡ 0 → take length.new out.new ≡ esc text.now }
+    ensures escaped { result ≡ 0 → take length.new out.new ≡ esc token.now }
     ensures refused { result ≢ 0 → (e : CallError) × Reports e [] result error.new
-        × IsNotEscaped text.now (list_length out.old) e }
+        × IsNotEscaped token.now (list_length out.old) e }
     ensures output_unchanged { result ≢ 0 → out.new ≡ out.old }
     ensures length { result ≢ 0 → IsLengthOf error.new length.old length.new }
 {
-    match escape(alloc, text, out) {
+    match pointers::escape(alloc, token, out) {
         Ok(copied) => {
             *length = copied;
             succeed(error)
@@ -91,19 +91,19 @@ pub extern "C" fn jsonptrcore_pointer_push(
     alloc: Global,
     buffer: &mut [u8],
     length: &mut usize,
-    text: &[u8],
+    token: &[u8],
     error: &mut ErrorRecord,
 ) -> u32
     ensures no_error { result ≡ 0 → error.new ≡ no_error }
     ensures pushed { result ≡ 0
-        → Extends (take length.old buffer.old) text.now (take length.new buffer.new) }
+        → Extends (take length.old buffer.old) token.now (take length.new buffer.new) }
     ensures refused { result ≢ 0 → (e : CallError)
         × Reports e (take length.old buffer.old) result error.new
-        × IsNotPushed length.old buffer.old text.now e }
+        × IsNotPushed length.old buffer.old token.now e }
     ensures unchanged { result ≢ 0 → buffer.new ≡ buffer.old }
     ensures length_unchanged { result ≢ 0 → length.new ≡ length.old }
 {
-    match push(alloc, buffer, *length, text) {
+    match pointers::push(alloc, buffer, *length, token) {
         Ok(longer) => {
             *length = longer;
             succeed(error)
@@ -128,7 +128,7 @@ pub extern "C" fn jsonptrcore_pointer_pop(
         × IsNotPopped pointer.now e }
     ensures length_unchanged { result ≢ 0 → length.new ≡ length.old }
 {
-    match pop(pointer) {
+    match pointers::pop(pointer) {
         Ok(shorter) => {
             *length = shorter;
             succeed(error)

@@ -27,7 +27,7 @@ use Rattle.jsonptr_patch.specs.Patching.{PatchesBy, RefusesPatchBy}
 use Rattle.jsonptr_patch.specs.declared.operation.Operation.{Operation}
 use Rattle.jsonptr_patch.specs.declared.operation.PatchError.{PatchError}
 use Rattle.jsonptr_patch.specs.declared.comparison.Comparison.TheVariants.{Numeric}
-use Rattle.jsonptr_c_calls.specs.Patches.{IsNotAppliedList, IsNotPatched, IsNotPatchText, LacksBack}
+use Rattle.jsonptr_c_calls.specs.Patches.{IsNotAppliedList, IsNotPatched, IsNotPatchText, LacksInverse}
 use Rattle.jsonptr_c_calls.specs.Pointers.{ParsesTo}
 use Rattle.jsonptr_c_calls.specs.ErrorNumbers.{status_number}
 use Rattle.jsonptr_c_calls.specs.Values.{FindsAtPointer}
@@ -255,15 +255,15 @@ module _ (not_both : (s : Text) (e : ParseError) → IsPointer s → IsParseErro
   not_applied d t os e f (inr (inr h)) (inl k) = absurd (k.0 h.0)
   not_applied d t os e f (inr (inr h)) (inr (inr k)) = same e f (PatchFailed h.1.0 h.1.1) (PatchFailed k.1.0 k.1.1) h.1.4 k.1.4 refl
 
-  no_back : ((n m : NodeMap) (os : List Operation) (e : PatchError) → IsDocument n → PatchesBy Numeric n os m → RefusesPatchBy Numeric n os e → ⊥) → (d : Data) (t : List ℕ) (os : List Operation) (e f : CallError) → IsNotAppliedList d t os e → ((n : Data) × StaysShallow d os × PatchesBy Numeric (nodes d) os (nodes n) × LacksBack d n f) → SameStatus e f
-  no_back apart d t os e f (inl h) k = absurd (h.0 k.1)
-  no_back apart d t os e f (inr (inl h)) k = inl h
-  no_back apart d t os e f (inr (inr h)) k = absurd (apart (nodes d) (nodes k.0) os h.1.0 (is_document d) k.2 h.1.2)
+  no_inverse : ((n m : NodeMap) (os : List Operation) (e : PatchError) → IsDocument n → PatchesBy Numeric n os m → RefusesPatchBy Numeric n os e → ⊥) → (d : Data) (t : List ℕ) (os : List Operation) (e f : CallError) → IsNotAppliedList d t os e → ((n : Data) × StaysShallow d os × PatchesBy Numeric (nodes d) os (nodes n) × LacksInverse d n f) → SameStatus e f
+  no_inverse apart d t os e f (inl h) k = absurd (h.0 k.1)
+  no_inverse apart d t os e f (inr (inl h)) k = inl h
+  no_inverse apart d t os e f (inr (inr h)) k = absurd (apart (nodes d) (nodes k.0) os h.1.0 (is_document d) k.2 h.1.2)
 
   pub not_patched : ((n m : NodeMap) (os : List Operation) (e : PatchError) → IsDocument n → PatchesBy Numeric n os m → RefusesPatchBy Numeric n os e → ⊥) → (d : Data) (t : List ℕ) (os : List Operation) (e f : CallError) → IsNotPatched d t os e → IsNotPatched d t os f → SameStatus e f
   not_patched apart d t os e f (inl h) (inl k) = not_applied d t os e f h k
-  not_patched apart d t os e f (inl h) (inr k) = no_back apart d t os e f h k
-  not_patched apart d t os e f (inr h) (inl k) = turned f e (no_back apart d t os f e k h)
+  not_patched apart d t os e f (inl h) (inr k) = no_inverse apart d t os e f h k
+  not_patched apart d t os e f (inr h) (inl k) = turned f e (no_inverse apart d t os f e k h)
   not_patched apart d t os e f (inr h) (inr k) = same e f InverseTooDeep InverseTooDeep h.3.3 k.3.3 refl
 
   lacks_value : (t : List ℕ) (ts : List Text) (e f : CallError) → LacksValue t ts e → LacksValue t ts f → SameStatus e f

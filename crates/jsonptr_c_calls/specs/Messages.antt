@@ -63,7 +63,7 @@ error_message OtherType = codes "the value is of another type"
 error_message (Assign e) = assign_message e
 error_message (NotPatch e) = patch_document_message e
 error_message (PatchFailed e m) = patch_message e
-error_message TooDeep = codes "the document would nest deeper than 10,127"
+error_message TooDeep = codes "the document could nest deeper than 10,127"
 error_message InverseTooDeep = codes "the inverse of the patch would nest deeper than 127"
 
 -- ---- The same by the numbers of a record
@@ -81,7 +81,7 @@ fixed_message status =
     else if status == number.NO_TOKEN then codes "the pointer has no such token"
     else if status == number.OTHER_TYPE then codes "the value is of another type"
     else if status == number.NOT_LOCATED then codes "value cannot be located in the text"
-    else if status == number.TOO_DEEP then codes "the document would nest deeper than 10,127"
+    else if status == number.TOO_DEEP then codes "the document could nest deeper than 10,127"
     else codes "unknown status"
 
 -- `fault_message kind slash`: what is at fault with a pointer or with an operation, by the kind and the slash

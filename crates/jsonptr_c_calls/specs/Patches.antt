@@ -83,21 +83,23 @@ abbrev pub IsNotCompared : Format → Data → Data → ℕ → CallError → Ty
 IsNotCompared format d n room e =
     IsOutOfMemory e ⊎ ((text : List ℕ) × IsDiffText format d n text × LacksRoom (length text) room e)
 
--- `IsBackText format n d text`: `text` reads as a patch document whose operations turn the document `n` back into `d`. It is
--- the text of their document, in this format
-abbrev pub IsBackText : Format → Data → Data → List ℕ → Type 0
-IsBackText format n d text = (back : List Operation) × IsPatchText text back × Patches (nodes n) back (nodes d)
-    × IsJsonText format (document_of back) text
+-- `IsInverseText format n d text`: `text` reads as a patch document whose operations turn the document `n` back into `d`.
+-- It is the text of their document, in this format
+abbrev pub IsInverseText : Format → Data → Data → List ℕ → Type 0
+IsInverseText format n d text =
+    (inverse : List Operation) × IsPatchText text inverse × Patches (nodes n) inverse (nodes d)
+    × IsJsonText format (document_of inverse) text
 
--- `AppliesWithBack format text d n out`: the operations of the patch document `text` turn the document `d` into `n`, and `out`
--- is the text of a patch document that takes them back
-abbrev pub AppliesWithBack : Format → List ℕ → Data → Data → List ℕ → Type 0
-AppliesWithBack format text d n out = AppliesText text d n × IsBackText format n d out
+-- `AppliesWithInverse format text d n out`: the operations of the patch document `text` turn the document `d` into `n`, and
+-- `out` is the text of a patch document that takes them back
+abbrev pub AppliesWithInverse : Format → List ℕ → Data → Data → List ℕ → Type 0
+AppliesWithInverse format text d n out = AppliesText text d n × IsInverseText format n d out
 
--- `LacksBack d n e`: operations that turn the document `n` back into `d` nest so deep that their text would not be read, and
--- `e` reports that
-abbrev pub LacksBack : Data → Data → CallError → Type 0
-LacksBack d n e = (back : List Operation) × Patches (nodes n) back (nodes d) × (max_depth < depth (document_of back))
+-- `LacksInverse d n e`: operations that turn the document `n` back into `d` nest so deep that their text would not be read,
+-- and `e` reports that
+abbrev pub LacksInverse : Data → Data → CallError → Type 0
+LacksInverse d n e =
+    (inverse : List Operation) × Patches (nodes n) inverse (nodes d) × (max_depth < depth (document_of inverse))
     × (e ≡ InverseTooDeep)
 
 -- `IsNotPatched d text os e`: the operations `os` of the patch document `text` are not applied to the document `d`, or what
@@ -105,17 +107,17 @@ LacksBack d n e = (back : List Operation) × Patches (nodes n) back (nodes d) ×
 abbrev pub IsNotPatched : Data → List ℕ → List Operation → CallError → Type 0
 IsNotPatched d text os e =
     IsNotAppliedList d text os e
-    ⊎ ((n : Data) × StaysShallow d os × PatchesBy Numeric (nodes d) os (nodes n) × LacksBack d n e)
+    ⊎ ((n : Data) × StaysShallow d os × PatchesBy Numeric (nodes d) os (nodes n) × LacksInverse d n e)
 
--- `IsNotTakenBack format d text os room e`: those operations are not applied, or the text of what takes them back does not
--- come to `room` bytes, and `e` reports why
-abbrev pub IsNotTakenBack : Format → Data → List ℕ → List Operation → ℕ → CallError → Type 0
-IsNotTakenBack format d text os room e =
+-- `IsNotAppliedListWithInverse format d text os room e`: those operations are not applied, or the text of what takes them
+-- back does not come to `room` bytes, and `e` reports why
+abbrev pub IsNotAppliedListWithInverse : Format → Data → List ℕ → List Operation → ℕ → CallError → Type 0
+IsNotAppliedListWithInverse format d text os room e =
     IsNotPatched d text os e
-    ⊎ ((n : Data) × (out : List ℕ) × StaysShallow d os × PatchesBy Numeric (nodes d) os (nodes n) × IsBackText format n d out
-    × LacksRoom (length out) room e)
+    ⊎ ((n : Data) × (out : List ℕ) × StaysShallow d os × PatchesBy Numeric (nodes d) os (nodes n)
+    × IsInverseText format n d out × LacksRoom (length out) room e)
 
--- `IsNotAppliedWithBack format text d room e`: the same of the document in the handle `d`
-abbrev pub IsNotAppliedWithBack : Format → List ℕ → Handle → ℕ → CallError → Type 0
-IsNotAppliedWithBack format text d room e = (os : List Operation) × IsUtf8 text × IsPatchText text os
-    × FailsOnHandle d (λ v. IsNotTakenBack format (view v) text os room e) e
+-- `IsNotAppliedWithInverse format text d room e`: the same of the document in the handle `d`
+abbrev pub IsNotAppliedWithInverse : Format → List ℕ → Handle → ℕ → CallError → Type 0
+IsNotAppliedWithInverse format text d room e = (os : List Operation) × IsUtf8 text × IsPatchText text os
+    × FailsOnHandle d (λ v. IsNotAppliedListWithInverse format (view v) text os room e) e

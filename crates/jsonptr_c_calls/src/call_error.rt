@@ -60,7 +60,8 @@ pub enum CallError {
     },
     /// A value is of another type than the call reads.
     OtherType,
-    /// The document would nest deeper than 10,127.
+    /// The document could nest deeper than 10,127: a pointer has more than 10,000 tokens, or the operations
+    /// of a patch can lead that deep.
     TooDeep,
     /// The patch document that takes a patch back would nest deeper than 127.
     InverseTooDeep,

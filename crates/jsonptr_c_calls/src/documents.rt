@@ -10,14 +10,14 @@ ghost use Rattle.jsonptr_c_calls.specs.Exactness.{IsNotParsedExactly};
 ghost use Rattle.jsonptr_c_calls.specs.Editing.{AssignsAtPointer, DeletesAtPointer, IsNotDeleted, IsTextNotAssigned};
 ghost use Rattle.jsonptr_c_calls.specs.Failures.{FailsOnHandle, IsNotParsed, IsNotPrinted, IsNotRead, LacksRoom, Unfound};
 ghost use Rattle.jsonptr_c_calls.specs.Nodes.{FindsNode};
-ghost use Rattle.jsonptr_c_calls.specs.Patches.{AppliesText, AppliesWithBack, IsDiffText, IsNotAppliedWithBack, IsNotApplied, IsNotCompared, IsNotPatchText};
+ghost use Rattle.jsonptr_c_calls.specs.Patches.{AppliesText, AppliesWithInverse, IsDiffText, IsNotAppliedWithInverse, IsNotApplied, IsNotCompared, IsNotPatchText};
 ghost use Rattle.jsonptr_c_calls.specs.Values.{Changes, FindsTextOf, FindsString, HoldsWith, ReadsInto};
 
 use crate::call_error::CallError;
 use crate::node::NodeInfo;
 use crate::patches::Patched;
-use crate::reading::{read, read_exactly};
-use crate::{editing, patches, values};
+use crate::read::{read, read_exactly};
+use crate::{edit, patches, values};
 use jsonptr_c_handle::handle::Handle;
 use jsonptr_in_text::Format;
 use serde_json::Value;
@@ -37,9 +37,9 @@ use std::alloc::{AllocError, Global};
 /// ```rust
 /// let mut document = Handle::empty();
 /// assert!(rt; documents::parse(alloc, &mut document, b"[1, 2]").is_ok());
-/// let node = node_at(alloc, &mut document, b"").ok().ok_or("a value")?;
+/// let node = documents::node(alloc, &mut document, b"").ok().ok_or("a value")?;
 /// assert_eq!(rt; (node.node_type, node.length), (ARRAY, 2));
-/// free(alloc, &mut document);
+/// documents::free(alloc, &mut document);
 /// ```
 pub fn parse(alloc: Global, document: &mut Handle, text: &[u8]) -> Result<(), CallError>
     ensures read { IfOk result (λ _. ReadsInto text.now document.new) }
@@ -73,7 +73,7 @@ pub fn parse(alloc: Global, document: &mut Handle, text: &[u8]) -> Result<(), Ca
 /// let lost = parse_exactly(alloc, &mut document, b"[1e-400]");
 /// assert!(rt; matches!(lost, Err(CallError::NotExact(_))));
 /// assert!(rt; parse_exactly(alloc, &mut document, b"[1.10]").is_ok());
-/// free(alloc, &mut document);
+/// documents::free(alloc, &mut document);
 /// ```
 pub fn parse_exactly(alloc: Global, document: &mut Handle, text: &[u8]) -> Result<(), CallError>
     ensures read { IfOk result (λ _. ReadsInto text.now document.new) }
@@ -102,7 +102,7 @@ pub fn free(alloc: Global, document: &mut Handle)
 ///
 /// # Errors
 ///
-/// [`CallError::NoDocument`], and those of [`values::print_at`]. The buffer is unchanged.
+/// [`CallError::NoDocument`], and those of [`values::get`]. The buffer is unchanged.
 ///
 /// # Examples
 ///
@@ -110,12 +110,12 @@ pub fn free(alloc: Global, document: &mut Handle)
 /// let mut document = Handle::empty();
 /// assert!(rt; documents::parse(alloc, &mut document, b"{\"a\": [1, 2]}").is_ok());
 /// let mut out = [0u8; 8];
-/// let printed = documents::print_at(alloc, &mut document, b"/a", Format::Compact, &mut out);
+/// let printed = documents::get(alloc, &mut document, b"/a", Format::Compact, &mut out);
 /// assert_eq!(rt; printed.ok(), Some(5));
 /// assert!(rt; out.starts_with(b"[1,2]"));
-/// free(alloc, &mut document);
+/// documents::free(alloc, &mut document);
 /// ```
-pub fn print_at(
+pub fn get(
     alloc: Global,
     document: &mut Handle,
     pointer: &[u8],
@@ -132,7 +132,7 @@ pub fn print_at(
     let Some(value) = document.take(alloc) else {
         return Err(CallError::NoDocument);
     };
-    let printed = values::print_at(alloc, &value, pointer, format, out);
+    let printed = values::get(alloc, &value, pointer, format, out);
     document.put(value);
     printed
 }
@@ -141,7 +141,7 @@ pub fn print_at(
 ///
 /// # Errors
 ///
-/// [`CallError::NoDocument`], and those of [`values::string_at`]. The buffer is unchanged.
+/// [`CallError::NoDocument`], and those of [`values::string`]. The buffer is unchanged.
 ///
 /// # Examples
 ///
@@ -149,12 +149,12 @@ pub fn print_at(
 /// let mut document = Handle::empty();
 /// assert!(rt; documents::parse(alloc, &mut document, b"[\"n\\u00e9\"]").is_ok());
 /// let mut out = [0u8; 8];
-/// assert_eq!(rt; documents::string_at(alloc, &mut document, b"/0", &mut out).ok(), Some(3));
-/// let array = documents::string_at(alloc, &mut document, b"", &mut out);
+/// assert_eq!(rt; documents::string(alloc, &mut document, b"/0", &mut out).ok(), Some(3));
+/// let array = documents::string(alloc, &mut document, b"", &mut out);
 /// assert!(rt; matches!(array, Err(CallError::OtherType)));
-/// free(alloc, &mut document);
+/// documents::free(alloc, &mut document);
 /// ```
-pub fn string_at(
+pub fn string(
     alloc: Global,
     document: &mut Handle,
     pointer: &[u8],
@@ -170,7 +170,7 @@ pub fn string_at(
     let Some(value) = document.take(alloc) else {
         return Err(CallError::NoDocument);
     };
-    let copied = values::string_at(alloc, &value, pointer, out);
+    let copied = values::string(alloc, &value, pointer, out);
     document.put(value);
     copied
 }
@@ -186,12 +186,12 @@ pub fn string_at(
 /// ```rust
 /// let mut document = Handle::empty();
 /// assert!(rt; documents::parse(alloc, &mut document, b"[-7]").is_ok());
-/// let node = node_at(alloc, &mut document, b"/0").ok().ok_or("a value")?;
+/// let node = documents::node(alloc, &mut document, b"/0").ok().ok_or("a value")?;
 /// assert_eq!(rt; (node.node_type, node.integer), (NUMBER, -7));
-/// assert!(rt; node_at(alloc, &mut document, b"/1").is_err());
-/// free(alloc, &mut document);
+/// assert!(rt; documents::node(alloc, &mut document, b"/1").is_err());
+/// documents::free(alloc, &mut document);
 /// ```
-pub fn node_at(alloc: Global, document: &mut Handle, pointer: &[u8]) -> Result<NodeInfo, CallError>
+pub fn node(alloc: Global, document: &mut Handle, pointer: &[u8]) -> Result<NodeInfo, CallError>
     ensures described { IfOk result (λ node.
         HoldsWith document.old (λ v. FindsNode (view v) pointer.now node)) }
     ensures refused { IfErr result (λ e.
@@ -207,12 +207,12 @@ pub fn node_at(alloc: Global, document: &mut Handle, pointer: &[u8]) -> Result<N
 }
 
 /// Assigns the value that the text is at the location that the pointer identifies, by
-/// [`editing::assign`].
+/// [`edit::assign`].
 ///
 /// # Errors
 ///
 /// - [`CallError::NotUtf8`] and [`CallError::NotJson`] for the text, which is read first.
-/// - [`CallError::NoDocument`], and those of [`editing::assign`].
+/// - [`CallError::NoDocument`], and those of [`edit::assign`].
 ///
 /// The document is unchanged.
 ///
@@ -223,10 +223,10 @@ pub fn node_at(alloc: Global, document: &mut Handle, pointer: &[u8]) -> Result<N
 /// assert!(rt; documents::parse(alloc, &mut document, b"{}").is_ok());
 /// assert!(rt; documents::assign(alloc, &mut document, b"/a/0", b"5").is_ok());
 /// let mut out = [0u8; 9];
-/// let printed = documents::print_at(alloc, &mut document, b"", Format::Compact, &mut out);
+/// let printed = documents::get(alloc, &mut document, b"", Format::Compact, &mut out);
 /// assert_eq!(rt; printed.ok(), Some(9));
 /// assert_eq!(rt; out, *b"{\"a\":[5]}");
-/// free(alloc, &mut document);
+/// documents::free(alloc, &mut document);
 /// ```
 pub fn assign(
     alloc: Global,
@@ -245,17 +245,17 @@ pub fn assign(
     let Some(mut value) = document.take(alloc) else {
         return Err(CallError::NoDocument);
     };
-    let outcome = editing::assign(alloc, &mut value, pointer, assigned);
+    let outcome = edit::assign(alloc, &mut value, pointer, assigned);
     document.put(value);
     outcome
 }
 
 /// Removes the value that the pointer resolves to, and returns whether there was one, by
-/// [`editing::delete`].
+/// [`edit::delete`].
 ///
 /// # Errors
 ///
-/// [`CallError::NoDocument`], and those of [`editing::delete`]. The document is unchanged.
+/// [`CallError::NoDocument`], and those of [`edit::delete`]. The document is unchanged.
 ///
 /// # Examples
 ///
@@ -264,7 +264,7 @@ pub fn assign(
 /// assert!(rt; documents::parse(alloc, &mut document, b"[1, 2]").is_ok());
 /// assert_eq!(rt; documents::delete(alloc, &mut document, b"/1").ok(), Some(true));
 /// assert_eq!(rt; documents::delete(alloc, &mut document, b"/1").ok(), Some(false));
-/// free(alloc, &mut document);
+/// documents::free(alloc, &mut document);
 /// ```
 pub fn delete(alloc: Global, document: &mut Handle, pointer: &[u8]) -> Result<bool, CallError>
     ensures deleted { IfOk result (λ found.
@@ -278,7 +278,7 @@ pub fn delete(alloc: Global, document: &mut Handle, pointer: &[u8]) -> Result<bo
     let Some(mut value) = document.take(alloc) else {
         return Err(CallError::NoDocument);
     };
-    let outcome = editing::delete(alloc, &mut value, pointer);
+    let outcome = edit::delete(alloc, &mut value, pointer);
     document.put(value);
     outcome
 }
@@ -300,9 +300,9 @@ pub fn delete(alloc: Global, document: &mut Handle, pointer: &[u8]) -> Result<bo
 /// let text = b"[{\"op\": \"remove\", \"path\": \"/0\"}]";
 /// assert!(rt; documents::patch(alloc, &mut document, text).is_ok());
 /// let mut out = [0u8; 3];
-/// let printed = documents::print_at(alloc, &mut document, b"", Format::Compact, &mut out);
+/// let printed = documents::get(alloc, &mut document, b"", Format::Compact, &mut out);
 /// assert_eq!(rt; (printed.ok(), out), (Some(3), *b"[2]"));
-/// free(alloc, &mut document);
+/// documents::free(alloc, &mut document);
 /// ```
 pub fn patch(alloc: Global, document: &mut Handle, text: &[u8]) -> Result<(), CallError>
     ensures applied { IfOk result (λ _.
@@ -344,9 +344,9 @@ pub fn patch(alloc: Global, document: &mut Handle, text: &[u8]) -> Result<(), Ca
 /// assert!(rt; documents::parse(alloc, &mut document, b"[1, 2]").is_ok());
 /// let (text, mut out) = (b"[{\"op\": \"remove\", \"path\": \"/0\"}]", [0u8; 64]);
 /// let copied = patch_with_inverse(alloc, &mut document, text, Format::Compact, &mut out);
-/// let back = out.get(..copied.ok().ok_or("a patch")?).unwrap_or(b"");
-/// assert!(rt; documents::patch(alloc, &mut document, back).is_ok());
-/// free(alloc, &mut document);
+/// let inverse = out.get(..copied.ok().ok_or("a patch")?).unwrap_or(b"");
+/// assert!(rt; documents::patch(alloc, &mut document, inverse).is_ok());
+/// documents::free(alloc, &mut document);
 /// ```
 pub fn patch_with_inverse(
     alloc: Global,
@@ -356,11 +356,11 @@ pub fn patch_with_inverse(
     out: &mut [u8],
 ) -> Result<usize, CallError>
     ensures applied { IfOk result (λ n. Changes document.old
-        (λ d m. AppliesWithBack format text.now d m (take n out.new)) document.new) }
+        (λ d m. AppliesWithInverse format text.now d m (take n out.new)) document.new) }
     ensures bounded { IfOk result (λ _.
         Changes document.old (λ d n. IsBounded d → IsBounded n) document.new) }
     ensures refused { IfErr result (λ e. IsNotPatchText text.now e
-        ⊎ IsNotAppliedWithBack format text.now document.old (length out.old) e) }
+        ⊎ IsNotAppliedWithInverse format text.now document.old (length out.old) e) }
     ensures output_unchanged { OnErr result (out.new ≡ out.old) }
     ensures unchanged { OnErr result (Keeps document.old document.new) }
 {

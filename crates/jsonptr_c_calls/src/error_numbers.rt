@@ -15,7 +15,7 @@ pub const OK: u32 = 0;
 pub const NO_MEMORY: u32 = 1;
 /// The buffer is shorter than the result.
 pub const NO_ROOM: u32 = 2;
-/// An argument cannot be used. Only the layer in C has this status, which looks for NULL.
+/// An argument cannot be used. Only the layer in C has this status, which checks arguments.
 pub const BAD_ARGUMENT: u32 = 3;
 /// The handle holds no document.
 pub const NO_DOCUMENT: u32 = 4;
@@ -37,7 +37,7 @@ pub const NOT_ASSIGNED: u32 = 11;
 pub const NOT_PATCH: u32 = 12;
 /// An operation of the patch fails.
 pub const PATCH_FAILED: u32 = 13;
-/// The document would nest too deep.
+/// The document could nest too deep.
 pub const TOO_DEEP: u32 = 14;
 /// A number of a text loses digits.
 pub const NOT_EXACT: u32 = 15;

@@ -48,7 +48,7 @@ pub fn one_error_law()
         → IsNotParsedExactly text e → IsNotParsedExactly text f → SameStatus e f }
     ensures lost_number { (lost : Lost) (room : ℕ) (e f : CallError)
         → LacksPointerOfNumber lost room e → LacksPointerOfNumber lost room f → SameStatus e f }
-    ensures print { (d : Handle) (format : Format) (bytes : List ℕ) (room : ℕ) (e f : CallError)
+    ensures get { (d : Handle) (format : Format) (bytes : List ℕ) (room : ℕ) (e f : CallError)
         → FailsOnHandle d (λ v. IsNotPrinted format (view v) bytes room e) e
         → FailsOnHandle d (λ v. IsNotPrinted format (view v) bytes room f) f → SameStatus e f }
     ensures string { (d : Handle) (bytes : List ℕ) (room : ℕ) (e f : CallError)
@@ -67,9 +67,9 @@ pub fn one_error_law()
         → IsNotPatchText text e → IsNotPatchText text f → SameStatus e f }
     ensures apply { (d : Data) (text : List ℕ) (os : List Operation) (e f : CallError)
         → IsNotAppliedList d text os e → IsNotAppliedList d text os f → SameStatus e f }
-    ensures take_back { (d : Data) (text : List ℕ) (os : List Operation) (e f : CallError)
+    ensures apply_with_inverse { (d : Data) (text : List ℕ) (os : List Operation) (e f : CallError)
         → IsNotPatched d text os e → IsNotPatched d text os f → SameStatus e f }
-    ensures print_in { (format : Format) (text bytes : List ℕ) (room : ℕ) (e f : CallError)
+    ensures resolve { (format : Format) (text bytes : List ℕ) (room : ℕ) (e f : CallError)
         → IsNotPrintedFrom format text bytes room e → IsNotPrintedFrom format text bytes room f
         → SameStatus e f }
     ensures locate { (text bytes : List ℕ) (e f : CallError)

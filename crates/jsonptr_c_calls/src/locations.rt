@@ -7,8 +7,8 @@ ghost use Rattle.jsonptr_c_calls.specs.Locations.{IsNotLocated, IsNotPointedAt, 
 use crate::buffer::copy_to;
 use crate::call_error::{Argument, CallError};
 use crate::pointers::{parse, text_of};
-use crate::reading::stop;
-use jsonptr_edit_in_text::{LocateError, locate_in_text, pointer_at};
+use crate::read::stop;
+use jsonptr_edit_in_text::{LocateError, locate_in_text};
 use std::alloc::Global;
 
 /// The bytes of a value in a JSON text.
@@ -35,10 +35,10 @@ pub struct TextSpan {
 /// # Examples
 ///
 /// ```rust
-/// let span = locate_in(alloc, b"{\"a\": [1.0, 2]}", b"/a/0").ok().ok_or("a value")?;
+/// let span = locate(alloc, b"{\"a\": [1.0, 2]}", b"/a/0").ok().ok_or("a value")?;
 /// assert_eq!(rt; (span.start, span.end), (7, 10));
 /// ```
-pub fn locate_in(alloc: Global, text: &[u8], pointer: &[u8]) -> Result<TextSpan, CallError>
+pub fn locate(alloc: Global, text: &[u8], pointer: &[u8]) -> Result<TextSpan, CallError>
     ensures located { IfOk result (λ s. LocatesInText text.now pointer.now s.start s.end) }
     ensures refused { IfErr result (IsNotLocated text.now pointer.now) }
 {
@@ -72,10 +72,10 @@ pub fn locate_in(alloc: Global, text: &[u8], pointer: &[u8]) -> Result<TextSpan,
 ///
 /// ```rust
 /// let mut out = [0u8; 8];
-/// assert_eq!(rt; pointer_at_in(alloc, b"{\"a\": [1.0, 2]}", 8, &mut out).ok(), Some(4));
+/// assert_eq!(rt; pointer_at(alloc, b"{\"a\": [1.0, 2]}", 8, &mut out).ok(), Some(4));
 /// assert!(rt; out.starts_with(b"/a/0"));
 /// ```
-pub fn pointer_at_in(
+pub fn pointer_at(
     alloc: Global,
     text: &[u8],
     offset: usize,
@@ -86,7 +86,7 @@ pub fn pointer_at_in(
     ensures output_unchanged { OnErr result (out.new ≡ out.old) }
 {
     let text = text_of(Argument::Text, text)?;
-    match pointer_at(alloc, text, offset) {
+    match jsonptr_edit_in_text::pointer_at(alloc, text, offset) {
         Ok(Some(found)) => copy_to(found.pointer.as_ptr().as_str().as_bytes(), out),
         Ok(None) => Err(CallError::NoValue { offset }),
         Err(error) => Err(location_error(alloc, text, error)),

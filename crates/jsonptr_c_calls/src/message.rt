@@ -85,7 +85,7 @@ fn fixed_message(status: u32) -> &'static str
         NO_TOKEN => "the pointer has no such token",
         OTHER_TYPE => "the value is of another type",
         NOT_LOCATED => "value cannot be located in the text",
-        TOO_DEEP => "the document would nest deeper than 10,127",
+        TOO_DEEP => "the document could nest deeper than 10,127",
         _ => "unknown status",
     }
 }

@@ -41,9 +41,9 @@ pub struct NodeInfo {
     pub has_natural: bool,
     /// Whether the value is `true`.
     pub is_true: bool,
-    /// The number, or 0 if it is not a whole number of this range.
+    /// The number, or 0 if it is not an integer of this range: `1.0` is none.
     pub integer: i64,
-    /// The number, or 0 if it is not a whole number of this range.
+    /// The number, or 0 if it is not an integer of this range.
     pub natural: u64,
     /// The nearest number of this type, or 0 if the value is not a number.
     pub number: f64,

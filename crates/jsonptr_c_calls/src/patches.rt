@@ -10,14 +10,14 @@ ghost use Rattle.jsonptr_patch.specs.declared.comparison.Comparison.TheVariants.
 ghost use Rattle.jsonptr_c_calls.specs.Depths.{AddsParsed, StaysShallow};
 ghost use Rattle.jsonptr_patch_document.specs.Writing.{document_of};
 ghost use Rattle.jsonptr_c_calls.specs.Failures.{IsOutOfMemory, LacksRoom};
-ghost use Rattle.jsonptr_c_calls.specs.Patches.{IsPatchText, IsNotPatchText, IsNotAppliedList, IsNotCompared, IsNotPatched, IsBackText, IsDiffText};
+ghost use Rattle.jsonptr_c_calls.specs.Patches.{IsPatchText, IsNotPatchText, IsNotAppliedList, IsNotCompared, IsNotPatched, IsInverseText, IsDiffText};
 ghost use Rattle.jsonptr_c_calls.specs.Values.{IsJsonText};
 ghost use Rattle.jsonptr_c_calls.specs.declared.call_error.CallError.TheVariants.{InverseTooDeep};
 
 use crate::buffer::copy_to;
 use crate::call_error::CallError;
 use crate::depths::stays_shallow;
-use crate::reading::read;
+use crate::read::read;
 use crate::sources::call_error_of;
 use crate::values::json_text;
 use jsonptr::Fault;
@@ -58,7 +58,8 @@ pub fn read_patch_text(alloc: Global, text: &[u8]) -> Result<Vec<Operation>, Cal
 /// - [`CallError::TooDeep`] if the operations can nest the document deeper than 10,127. Each copy and
 ///   each move counts with as many levels as its `path` has more tokens than its `from`.
 /// - [`CallError::PatchFailed`] with the first operation that fails, and which of its pointers is at
-///   fault. The text is then read once more, and the operations before that one are applied again.
+///   fault. If that does not resolve, the text is read once more; of a move or a copy the operations
+///   before it are then applied again.
 /// - [`CallError::Memory`] if an allocation fails.
 ///
 /// The document is unchanged.
@@ -128,7 +129,7 @@ pub fn patched_copy(
     ensures sorted { IfOk result (λ made. All OperationHasSortedKeys patch.items
         → HasSortedKeys (view document.old) → HasSortedKeys (view made.document)) }
     ensures inverse { IfOk result (λ made.
-        IsBackText format (view made.document) (view document.old) made.inverse.items) }
+        IsInverseText format (view made.document) (view document.old) made.inverse.items) }
     ensures refused { IfErr result (IsNotPatched (view document.old) text.now patch.items) }
     ensures unchanged { view document.new ≡ view document.old }
 {

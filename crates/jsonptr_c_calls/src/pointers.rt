@@ -43,12 +43,12 @@ pub fn text_of(argument: Argument, bytes: &[u8]) -> Result<&str, CallError>
 /// assert_eq!(rt; pointers::parse(b"/a~1b/0").ok().map(|pointer| pointer.count()), Some(2));
 /// assert!(rt; matches!(pointers::parse(b"a"), Err(CallError::NotPointer(_))));
 /// ```
-pub fn parse(bytes: &[u8]) -> Result<Pointer<'_>, CallError>
-    ensures pointer { IfOk result (λ p. HasTokens bytes.now (tokens p)) }
-    ensures utf8 { OnOk result (IsUtf8 bytes.now) }
-    ensures refused { IfErr result (IsNoPointer bytes.now) }
+pub fn parse(pointer: &[u8]) -> Result<Pointer<'_>, CallError>
+    ensures pointer { IfOk result (λ p. HasTokens pointer.now (tokens p)) }
+    ensures utf8 { OnOk result (IsUtf8 pointer.now) }
+    ensures refused { IfErr result (IsNoPointer pointer.now) }
 {
-    match Pointer::parse(text_of(Argument::Pointer, bytes)?) {
+    match Pointer::parse(text_of(Argument::Pointer, pointer)?) {
         Ok(pointer) => Ok(pointer),
         Err(error) => Err(CallError::NotPointer(error)),
     }
@@ -67,11 +67,11 @@ pub fn parse(bytes: &[u8]) -> Result<Pointer<'_>, CallError>
 /// assert_eq!(rt; count(b"/a~1b/0").ok(), Some(2));
 /// assert!(rt; matches!(count(b"/\xff"), Err(CallError::NotUtf8 { offset: 1, .. })));
 /// ```
-pub fn count(bytes: &[u8]) -> Result<usize, CallError>
-    ensures count { IfOk result (λ n. HasCount bytes.now n) }
-    ensures refused { IfErr result (IsNoPointer bytes.now) }
+pub fn count(pointer: &[u8]) -> Result<usize, CallError>
+    ensures count { IfOk result (λ n. HasCount pointer.now n) }
+    ensures refused { IfErr result (IsNoPointer pointer.now) }
 {
-    Ok(parse(bytes)?.count())
+    Ok(parse(pointer)?.count())
 }
 
 /// Copies the decoded token at the position to the buffer, and returns its length.
@@ -93,15 +93,15 @@ pub fn count(bytes: &[u8]) -> Result<usize, CallError>
 /// ```
 pub fn token(
     alloc: Global,
-    bytes: &[u8],
+    pointer: &[u8],
     position: usize,
     out: &mut [u8],
 ) -> Result<usize, CallError>
-    ensures token { IfOk result (λ n. HasToken bytes.now position (take n out.new)) }
-    ensures refused { IfErr result (IsNoToken bytes.now position (list_length out.old)) }
+    ensures token { IfOk result (λ n. HasToken pointer.now position (take n out.new)) }
+    ensures refused { IfErr result (IsNoToken pointer.now position (list_length out.old)) }
     ensures output_unchanged { OnErr result (out.new ≡ out.old) }
 {
-    let Some(token) = parse(bytes)?.get(position) else {
+    let Some(token) = parse(pointer)?.get(position) else {
         return Err(CallError::NoToken);
     };
     copy_to(token.decoded(alloc)?.as_str().as_bytes(), out)
@@ -123,12 +123,12 @@ pub fn token(
 /// assert_eq!(rt; escape(alloc, b"a/b", &mut out).ok(), Some(4));
 /// assert!(rt; out.starts_with(b"a~1b"));
 /// ```
-pub fn escape(alloc: Global, bytes: &[u8], out: &mut [u8]) -> Result<usize, CallError>
-    ensures escaped { IfOk result (λ n. take n out.new ≡ esc bytes.now) }
-    ensures refused { IfErr result (IsNotEscaped bytes.now (list_length out.old)) }
+pub fn escape(alloc: Global, token: &[u8], out: &mut [u8]) -> Result<usize, CallError>
+    ensures escaped { IfOk result (λ n. take n out.new ≡ esc token.now) }
+    ensures refused { IfErr result (IsNotEscaped token.now (list_length out.old)) }
     ensures output_unchanged { OnErr result (out.new ≡ out.old) }
 {
-    let token = Token::new(alloc, CowStr::Borrowed(text_of(Argument::Token, bytes)?))?;
+    let token = Token::new(alloc, CowStr::Borrowed(text_of(Argument::Token, token)?))?;
     copy_to(token.encoded().as_bytes(), out)
 }
 
@@ -162,10 +162,10 @@ pub fn push(
         (IsNotPushed length buffer.old token.now) }
     ensures unchanged { OnErr result (buffer.new ≡ buffer.old) }
 {
-    let Some(bytes) = buffer.get(..length) else {
+    let Some(pointer) = buffer.get(..length) else {
         return Err(CallError::NoRoom { needed: length });
     };
-    match extended(alloc, bytes, token) {
+    match extended(alloc, pointer, token) {
         Ok(longer) => copy_to(longer.as_ptr().as_str().as_bytes(), buffer),
         Err(call_error) => Err(call_error),
     }
@@ -176,13 +176,13 @@ pub fn push(
 /// # Errors
 ///
 /// Those of [`push`], except that of a short buffer.
-fn extended(alloc: Global, bytes: &[u8], token: &[u8]) -> Result<PointerBuf, CallError>
-    ensures pushed { IfOk result (λ p. Extends bytes.now token.now (text p)) }
-    ensures pointer_utf8 { OnOk result (IsUtf8 bytes.now) }
+fn extended(alloc: Global, pointer: &[u8], token: &[u8]) -> Result<PointerBuf, CallError>
+    ensures pushed { IfOk result (λ p. Extends pointer.now token.now (text p)) }
+    ensures pointer_utf8 { OnOk result (IsUtf8 pointer.now) }
     ensures token_utf8 { OnOk result (IsUtf8 token.now) }
-    ensures refused { IfErr result (IsNotExtended bytes.now token.now) }
+    ensures refused { IfErr result (IsNotExtended pointer.now token.now) }
 {
-    let pointer = parse(bytes)?;
+    let pointer = parse(pointer)?;
     let token = Token::new(alloc, CowStr::Borrowed(text_of(Argument::Token, token)?))?;
     Ok(pointer.with_trailing_token(alloc, token)?)
 }
@@ -199,11 +199,11 @@ fn extended(alloc: Global, bytes: &[u8], token: &[u8]) -> Result<PointerBuf, Cal
 /// assert_eq!(rt; pop(b"/a/b").ok(), Some(2));
 /// assert!(rt; matches!(pop(b""), Err(CallError::NoToken)));
 /// ```
-pub fn pop(bytes: &[u8]) -> Result<usize, CallError>
-    ensures popped { IfOk result (Shortens bytes.now) }
-    ensures refused { IfErr result (IsNotPopped bytes.now) }
+pub fn pop(pointer: &[u8]) -> Result<usize, CallError>
+    ensures popped { IfOk result (Shortens pointer.now) }
+    ensures refused { IfErr result (IsNotPopped pointer.now) }
 {
-    match parse(bytes)?.parent() {
+    match parse(pointer)?.parent() {
         Some(parent) => Ok(parent.as_str().len()),
         None => Err(CallError::NoToken),
     }

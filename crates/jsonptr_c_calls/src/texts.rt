@@ -1,4 +1,4 @@
-//! Calls on a JSON text that is not read into a document.
+//! Calls on a JSON text.
 ghost use Rattle.std.specs.Prelude.{◌≡◌, IfErr, IfOk, IsUtf8, MatchOption, OnErr, OnOk, length, take};
 ghost use Rattle.jsonptr_numbers.specs.Digits.{KeepsDigits};
 ghost use Rattle.jsonptr_numbers.specs.Lost.{Loses};
@@ -9,7 +9,7 @@ ghost use Rattle.jsonptr_c_calls.specs.InTexts.{FindsAtPointerInText, FindsTextI
 use crate::buffer::copy_to;
 use crate::call_error::{Argument, CallError};
 use crate::pointers::{parse, text_of};
-use crate::reading::{lost_of, read, stop};
+use crate::read::{lost_of, read, stop};
 use crate::values::json_text;
 use jsonptr_in_text::{Format, InTextError, resolve_in_text};
 use jsonptr_numbers::Lost;
@@ -61,11 +61,11 @@ fn find_in(alloc: Global, text: &[u8], pointer: &[u8]) -> Result<Value, CallErro
 ///
 /// ```rust
 /// let mut out = [0u8; 8];
-/// let printed = print_in(alloc, b"{\"a\": [1, 2]}", b"/a", Format::Compact, &mut out);
+/// let printed = resolve(alloc, b"{\"a\": [1, 2]}", b"/a", Format::Compact, &mut out);
 /// assert_eq!(rt; printed.ok(), Some(5));
 /// assert!(rt; out.starts_with(b"[1,2]"));
 /// ```
-pub fn print_in(
+pub fn resolve(
     alloc: Global,
     text: &[u8],
     pointer: &[u8],
@@ -98,16 +98,12 @@ pub fn print_in(
 ///
 /// ```rust
 /// let mut out = [0u8; 8];
-/// let found = lost_number_in(alloc, b"{\"a\": [1.10, 1e-400]}", &mut out);
+/// let found = lost_number(alloc, b"{\"a\": [1.10, 1e-400]}", &mut out);
 /// assert_eq!(rt; found.ok(), Some(Some(4)));
 /// assert!(rt; out.starts_with(b"/a/1"));
-/// assert_eq!(rt; lost_number_in(alloc, b"[1.10]", &mut out).ok(), Some(None));
+/// assert_eq!(rt; lost_number(alloc, b"[1.10]", &mut out).ok(), Some(None));
 /// ```
-pub fn lost_number_in(
-    alloc: Global,
-    text: &[u8],
-    out: &mut [u8],
-) -> Result<Option<usize>, CallError>
+pub fn lost_number(alloc: Global, text: &[u8], out: &mut [u8]) -> Result<Option<usize>, CallError>
     ensures found { IfOk result (λ o. MatchOption o (KeepsDigits text.now)
         (λ n. (lost : SpecLost) × Loses text.now lost × PointsTo (take n out.new) lost)) }
     ensures utf8 { OnOk result (IsUtf8 text.now) }

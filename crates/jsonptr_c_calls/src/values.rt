@@ -52,7 +52,7 @@ pub fn json_text(alloc: Global, value: &Value, format: Format) -> Result<Vec<u8>
 ///
 /// Those of [`find`], and [`CallError::NoRoom`] if the buffer is shorter than the text. The buffer is
 /// unchanged.
-pub fn print_at(
+pub fn get(
     alloc: Global,
     document: &Value,
     pointer: &[u8],
@@ -79,7 +79,7 @@ pub fn print_at(
 /// - [`CallError::NoRoom`] if the buffer is shorter than the string.
 ///
 /// The buffer is unchanged.
-pub fn string_at(
+pub fn string(
     alloc: Global,
     document: &Value,
     pointer: &[u8],

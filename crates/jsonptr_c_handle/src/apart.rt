@@ -30,6 +30,7 @@ impl<T: Drop, A: Allocator> Apart<T, A> {
         ensures { result.value ≡ self.content }
     {
         let Apart { address, allocator } = self;
+        // SAFETY: both come from a box, which `from_box` took apart.
         unsafe { Box::from_raw(allocator, address) }
     }
 }

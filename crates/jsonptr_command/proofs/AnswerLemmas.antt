@@ -15,7 +15,7 @@ use Rattle.jsonptr_command.specs.JsonText.{json_of}
 use Rattle.jsonptr_io.specs.Streams.{ForInput}
 use Rattle.jsonptr_command.proofs.JsonLemmas.{json_of-utf8, json_of-None}
 use Rattle.jsonptr_command.specs.Run.{ComesAfterInput, IsRunOutcome, HasValueOf, IsOperationFault, IsRequestFault, LeavesValue, NeedsInput, SplitsInTwo, OnDocument, Resolves, resolving}
-use Rattle.jsonptr_command.specs.Faults.{IsInputFault, fault_of_in_text}
+use Rattle.jsonptr_command.specs.Faults.{IsInputFault, of_in_text_fault}
 use Rattle.jsonptr_command.specs.Private.{asked_by, Changes, ComesBeforeDocument, IsFaultOf, IsLineOf, IsNoValue}
 use Rattle.jsonptr_command.specs.declared.run.Request as code
 use Rattle.jsonptr_command.specs.declared.run.Request.TheVariants.{Resolve}
@@ -103,7 +103,7 @@ pub found_given : (bytes : List ℕ) (ts : List Text) (v : Data) → IsUtf8 byte
 found_given bytes ts v h = on_document bytes h.1.0 (Ok v) (λ d. Resolves d ts (Ok v)) (json_of-utf8 bytes h.0 ∙ h.1.1) h.1.2
 
 -- why there is none
-pub error_given : (bytes : List ℕ) (ts : List Text) (e : InTextError) → IsInSliceError bytes ts e → IsFaultOf (IsRunOutcome (resolving ts) bytes) (fault_of_in_text e)
+pub error_given : (bytes : List ℕ) (ts : List Text) (e : InTextError) → IsInSliceError bytes ts e → IsFaultOf (IsRunOutcome (resolving ts) bytes) (of_in_text_fault e)
 error_given bytes ts NotJson h = inl (no_document bytes InputNotJson (λ d. Resolves d ts (Err InputNotJson)) (json_of-None bytes h) refl)
 error_given bytes ts (in_text.Resolve f) h = inl (on_document bytes h.1.0 (Err (NoValue f)) (λ d. Resolves d ts (Err (NoValue f))) (json_of-utf8 bytes h.0 ∙ h.1.1) (f, h.1.2, refl))
 error_given bytes ts (in_text.Memory e) h = inr refl

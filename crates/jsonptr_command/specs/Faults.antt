@@ -27,11 +27,11 @@ abbrev pub of_resolve_fault : Fault resolve.Error → RunFault
 of_resolve_fault (fault.Refused e) = NoValue e
 of_resolve_fault (fault.Memory e) = Memory e
 
--- `fault_of_in_text e`: the fault of the run if a pointer does not resolve in the text of the input
-abbrev pub fault_of_in_text : InTextError → RunFault
-fault_of_in_text NotJson = InputNotJson
-fault_of_in_text (Resolve e) = NoValue e
-fault_of_in_text (in_text.Memory e) = Memory e
+-- `of_in_text_fault e`: the fault of the run if a pointer does not resolve in the text of the input
+abbrev pub of_in_text_fault : InTextError → RunFault
+of_in_text_fault NotJson = InputNotJson
+of_in_text_fault (Resolve e) = NoValue e
+of_in_text_fault (in_text.Memory e) = Memory e
 
 -- `of_assign_fault e`: the fault of the run if a value cannot be assigned
 abbrev pub of_assign_fault : Fault assign.Error → RunFault

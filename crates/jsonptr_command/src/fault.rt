@@ -1,7 +1,7 @@
 //! The errors of the program, and its exit status.
 ghost use Rattle.std.specs.Prelude.{◌≡◌, MatchResult};
 ghost use Rattle.std.specs.Process.{exit_status};
-ghost use Rattle.jsonptr_command.specs.Faults.{of_assign_fault, fault_of_in_text, of_input_fault, of_patch_fault, of_resolve_fault};
+ghost use Rattle.jsonptr_command.specs.Faults.{of_assign_fault, of_in_text_fault, of_input_fault, of_patch_fault, of_resolve_fault};
 ghost use Rattle.jsonptr_command.specs.Run.{status_of};
 ghost use Rattle.jsonptr_command.specs.declared.fault.RunFault.TheVariants.{BadPointer, Memory, Write};
 
@@ -121,7 +121,7 @@ impl From<Fault<resolve::Error>> for RunFault {
 }
 
 impl From<InTextError> for RunFault {
-    ghost from_gives = { λ error fault. fault ≡ fault_of_in_text error };
+    ghost from_gives = { λ error fault. fault ≡ of_in_text_fault error };
 
     fn from(error: InTextError) -> RunFault {
         match error {

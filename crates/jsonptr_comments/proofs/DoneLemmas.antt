@@ -30,9 +30,9 @@ blanks_ascii (x ∷ s) (suc i) = blanks_ascii s i
 
 -- ---- one piece
 
-pub grown : (all text : List ℕ) (i : ℕ) (value : Bool) (comma : Option ℕ) (d : Done all text i value comma) (p : Piece) (c e : Bool) (w : List ℕ) → closes (p ∷ []) c ≡ e → without value p c ≡ w
+pub appended : (all text : List ℕ) (i : ℕ) (value : Bool) (comma : Option ℕ) (d : Done all text i value comma) (p : Piece) (c e : Bool) (w : List ℕ) → closes (p ∷ []) c ≡ e → without value p c ≡ w
     → all_without false d.ps e ++ w ≡ all_without false (d.ps ++ p ∷ []) c
-grown all text i value comma d p c e w h k =
+appended all text i value comma d p c e w h k =
     sym (all_without-more false d.ps p c ∙ ap₂ (λ b t. all_without false d.ps b ++ t) h (ap (λ v. without v p c) (sym d.value_is) ∙ k))
 
 pub done_next : (all text : List ℕ) (i : ℕ) (value : Bool) (comma : Option ℕ) (d : Done all text i value comma) (p : Piece) (after : List ℕ) → drop i text ≡ spelled p ++ after → IsWhole p after
@@ -62,7 +62,7 @@ pub done_kept : (all text : List ℕ) (i : ℕ) (value : Bool) (comma : Option �
 done_kept all text i value comma d p after e s cl wo j len w v =
     let here = all_without false d.ps false ++ spelled p in
     done_next all text i value comma d p after e s text j None here here
-    (grown all text i value comma d p false false (spelled p) (cl false) (wo false)) (grown all text i value comma d p true false (spelled p) (cl true) (wo true))
+    (appended all text i value comma d p false false (spelled p) (cl false) (wo false)) (appended all text i value comma d p true false (spelled p) (cl true) (wo true))
     (d.left ∙ ap (λ t. all_without false d.ps false ++ t) e ∙ sym (append_assoc (all_without false d.ps false) (spelled p) after))
     (length-append (all_without false d.ps false) (spelled p) ∙ ap (λ n. n + length (spelled p)) d.at ∙ sym len) refl d.utf8 w v
 
@@ -73,7 +73,7 @@ pub done_blank : (all text : List ℕ) (i : ℕ) (value : Bool) (comma : Option 
 done_blank all text i value comma d p after w e s cl wo same new n u j len v =
     let front : take i text ≡ all_without false d.ps false = ap (λ t. take i t) d.left ∙ take_at (all_without false d.ps false) (drop i text) i d.at in
     done_next all text i value comma d p after e s new j comma (all_without false d.ps false ++ w) (all_without false d.ps true ++ w)
-    (grown all text i value comma d p false false w (cl false) (wo false)) (grown all text i value comma d p true true w (cl true) (wo true))
+    (appended all text i value comma d p false false w (cl false) (wo false)) (appended all text i value comma d p true true w (cl true) (wo true))
     (n ∙ ap (λ t. t ++ (w ++ after)) front ∙ sym (append_assoc (all_without false d.ps false) w after))
     (length-append (all_without false d.ps false) w ∙ ap₂ (λ m n. m + n) d.at same ∙ sym len)
     (pends_more comma (all_without false d.ps false) (all_without false d.ps true) w d.pends) u value v
@@ -83,7 +83,7 @@ pub done_comma : (all text : List ℕ) (i : ℕ) (comma : Option ℕ) (d : Done 
 done_comma all text i comma d after e =
     let here = all_without false d.ps false in
     done_next all text i true comma d (other 44) after e (λ f. omega (arith, f), λ f. absurd (omega (arith, f))) text (i + 1) (Some i) (here ++ 44 ∷ []) (here ++ 32 ∷ [])
-    (grown all text i true comma d (other 44) false false (44 ∷ []) refl refl) (grown all text i true comma d (other 44) true false (32 ∷ []) refl refl)
+    (appended all text i true comma d (other 44) false false (44 ∷ []) refl refl) (appended all text i true comma d (other 44) true false (32 ∷ []) refl refl)
     (d.left ∙ ap (λ t. here ++ t) e ∙ sym (append_assoc here (44 ∷ []) after))
     (length-append here (44 ∷ []) ∙ ap (λ n. n + 1) d.at) (here, [], d.at, refl, refl) d.utf8 false refl
 
@@ -125,6 +125,6 @@ done_closing all text i value comma d x after e s cl wo v =
     let made = closed_text all text i value comma d (all_without false d.ps false) there d.left d.pends d.utf8 in
     let same : length there ≡ i = same_lengths comma (all_without false d.ps false) there d.pends ∙ d.at in
     done_next all text i value comma d (other x) after e s (blanked_comma comma text) (i + 1) None (there ++ x ∷ []) (there ++ x ∷ [])
-    (grown all text i value comma d (other x) false true (x ∷ []) (cl false) (wo false)) (grown all text i value comma d (other x) true true (x ∷ []) (cl true) (wo true))
+    (appended all text i value comma d (other x) false true (x ∷ []) (cl false) (wo false)) (appended all text i value comma d (other x) true true (x ∷ []) (cl true) (wo true))
     (made.0 ∙ ap (λ t. there ++ t) e ∙ sym (append_assoc there (x ∷ []) after))
     (length-append there (x ∷ []) ∙ ap (λ n. n + 1) same) refl made.1 true (sym v)

@@ -199,7 +199,7 @@ pub fn one_label(
 
 /// An error that can be reported together with the value that it is about.
 ///
-/// The errors of this library implement it. Implement it for an error type of your own to report
+/// The errors of parsing, `resolve` and `assign` implement it. Implement it for an error type of your own to report
 /// that with the same functions. An implementation names the type of the subject, the page of the
 /// error and the labels. The subjects of this library's errors are:
 ///

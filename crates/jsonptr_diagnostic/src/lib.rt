@@ -1,6 +1,6 @@
 //! Reports of errors, with labels on the texts that they are about.
 //!
-//! The crate `jsonptr` re-exports these modules under its own paths.
+//! The crate `jsonptr` re-exports the module `diagnostic`.
 #![tactic(auto)]
 
 pub mod diagnostic;

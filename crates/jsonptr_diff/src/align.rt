@@ -24,6 +24,10 @@ pub struct Gap {
 /// first elements match, returns a gap of these two.
 ///
 /// Compares at most `(LOOKAHEAD + 1)²` pairs of elements.
+///
+/// # Conditions
+///
+/// Neither part is empty.
 pub fn next_gap(old: &[Value], new: &[Value]) -> Gap
     requires old { 1 ≤ length old.now }
     requires new { 1 ≤ length new.now }

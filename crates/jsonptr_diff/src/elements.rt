@@ -55,6 +55,10 @@ pub struct IndexRange {
 /// # Errors
 ///
 /// [`AllocError`] if an allocation fails.
+///
+/// # Conditions
+///
+/// The range is one of `new`.
 pub fn add_elements(
     alloc: Global,
     new: &Vec<Value>,

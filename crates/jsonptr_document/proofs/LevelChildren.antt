@@ -13,7 +13,7 @@ use Rattle.jsonptr_grammar.specs.Text.{Text}
 use Rattle.jsonptr_tree.specs.Node.{Step, key, place, Label, an_object, an_array, a_leaf, MayHave}
 use Rattle.jsonptr_tree.specs.Content.{Content, array, object}
 use Rattle.jsonptr_tree.specs.Put.{put}
-use Rattle.jsonptr_tree.specs.Growing.{with_one}
+use Rattle.jsonptr_tree.specs.Expansion.{with_one}
 use Rattle.jsonptr_tree.specs.Assigning.{with_room}
 use Rattle.jsonptr_tree.proofs.ContentLemmas.{map_of-IsTree}
 use Rattle.jsonptr_tree.proofs.LevelLemmas.{items_by, members_by, map_of-Array, content_at-Array, map_of-Object, content_at-Object, map_of-Object_none, map_of-push, map_of-remove, map_of-insert, map_of-remove_member, map_of-one_member}

@@ -28,10 +28,10 @@ step_of (Member k) = Some (key (cow_str_bytes k))
 step_of (Missing e) = None
 
 module _ {D : Type 0} (nodes : D → NodeMap) (stands : D → Path → D → Type 0) where
-  -- `Removes d way m answer`: removing the child `way` from the document `d` leaves `m` and returns
+  -- `Removes d child m answer`: removing the child `child` from the document `d` leaves `m` and returns
   -- `answer`, that child. If there is none, `answer` is `None` and `m` is `d`
   abbrev pub Removes : D → ChildRef → D → Option D → Type 0
-  Removes d way m answer = MatchOption answer
-      (((s : Step) → step_of way ≡ Some s → nodes d (s ∷ []) ≡ None) × stands d [] m)
-      (λ e. (s : Step) × (step_of way ≡ Some s) × stands d (s ∷ []) e
+  Removes d child m answer = MatchOption answer
+      (((s : Step) → step_of child ≡ Some s → nodes d (s ∷ []) ≡ None) × stands d [] m)
+      (λ e. (s : Step) × (step_of child ≡ Some s) × stands d (s ∷ []) e
       × (nodes m ≡ without_step s (nodes d)))

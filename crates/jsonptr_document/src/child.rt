@@ -38,8 +38,8 @@ pub enum ChildError {
 /// - [`Fault::Refused`] if the token names no child.
 /// - [`Fault::Memory`] if the allocation for the decoded token fails.
 pub fn child<'v, D: Document>(
-    at: &'v D,
     alloc: Global,
+    at: &'v D,
     token: &Token<'_>,
 ) -> Result<&'v D, Fault<ChildError>>
     ensures found { IfOk result (λ e.

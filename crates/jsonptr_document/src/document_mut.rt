@@ -3,7 +3,7 @@
 ghost use Rattle.std.specs.Prelude.{◌≡◌, IfOk, OnErr, MatchOption, [], ◌∷◌, Some, ℕ, List, string_bytes};
 ghost use Rattle.jsonptr_tree.specs.Node.{key, place, an_object, an_array, NodeMap, IsTree};
 ghost use Rattle.jsonptr_tree.specs.Put.{put};
-ghost use Rattle.jsonptr_tree.specs.Growing.{with_one};
+ghost use Rattle.jsonptr_tree.specs.Expansion.{with_one};
 ghost use Rattle.jsonptr_document.specs.Writing.{IsArray, IsObject, Pushes, Removes};
 
 use crate::child_ref::ChildRef;
@@ -85,8 +85,8 @@ pub trait DocumentMut: Document {
 
     /// Removes a child of the root and returns it. Returns `None` and changes nothing if it does
     /// not exist.
-    fn remove(&mut self, way: &ChildRef<'_>) -> Option<Self>
-        ensures removed { Removes Self.nodes Self.stands_at self.old way.now self.new result }
+    fn remove(&mut self, child: &ChildRef<'_>) -> Option<Self>
+        ensures removed { Removes Self.nodes Self.stands_at self.old child.now self.new result }
         ensures sorted { Self.has_sorted_keys self.old → Self.has_sorted_keys self.new };
 
     // the map of a document is a tree

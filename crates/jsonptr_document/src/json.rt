@@ -113,8 +113,8 @@ impl DocumentMut for Value {
         }
     }
 
-    fn remove(&mut self, way: &ChildRef<'_>) -> Option<Value> {
-        match (self, way) {
+    fn remove(&mut self, child: &ChildRef<'_>) -> Option<Value> {
+        match (self, child) {
             (Value::Array(elements), ChildRef::Element(index)) if *index < elements.len() => {
                 Some(elements.remove(*index))
             }

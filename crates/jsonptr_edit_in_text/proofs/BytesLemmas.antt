@@ -10,11 +10,11 @@ use Rattle.serde_json.specs.declared.value.Value.{Null, the_lemmas}
 use Rattle.jsonptr.specs.Text.{Text, dec}
 use Rattle.jsonptr.specs.Node.{key, Label, an_object, NamesStep}
 use Rattle.jsonptr.specs.Content.{Content, label_of, content_at}
-use Rattle.jsonptr.specs.Growing.{grown}
+use Rattle.jsonptr.specs.Expansion.{expanded}
 use Rattle.jsonptr.specs.Json.{content, nodes}
 use Rattle.jsonptr_tree.proofs.ContentLemmas.{content_at-push}
 use Rattle.jsonptr_tree.proofs.NodeLemmas.{Names-push}
-use Rattle.jsonptr_json_search.specs.Search as skim
+use Rattle.jsonptr_json_search.specs.Search as json_search
 use Rattle.jsonptr_json_search.specs.Search.{Choice}
 use Rattle.jsonptr_in_text.specs.InText.{FindsInText}
 use Rattle.jsonptr_in_text.specs.Selecting.{IsChoiceOf}
@@ -25,7 +25,7 @@ use Rattle.jsonptr_json_edits.specs.declared.edit.Child.{Child}
 use Rattle.jsonptr_json_edits.specs.declared.edit.Edit.TheVariants as edit
 use Rattle.jsonptr_json_edits.specs.Spacing.{IsBlank, IsTrimmed, Splices}
 use Rattle.jsonptr_json_edits.specs.Child.{IsValueText, IsOneChild}
-use Rattle.jsonptr_edit_in_text.specs.Bytes.{IsScalar, ReplacesBytes, ExpandsBytes, GrowsBytes, CutsBytes, CutsInTurn, CutsMembers, CutsElement}
+use Rattle.jsonptr_edit_in_text.specs.Bytes.{IsScalar, ReplacesBytes, ExpandsBytes, AddsExpandedBytes, CutsBytes, CutsInTurn, CutsMembers, CutsElement}
 use Rattle.jsonptr_edit_in_text.specs.Carrying.{value_of_raw}
 use Rattle.jsonptr_edit_in_text.specs.PatchInText.{AddsAtBytes}
 use Rattle.jsonptr_edit_in_text.specs.PrivateReaching.{ReachedInText, ReplacesCut, MemberAdded, ElementAppended, ReplacesByText, ReplacesScalarByText, AddsPieceByText, AddsByText}
@@ -116,9 +116,9 @@ replaced_member old new front x middle piece flat splices h trimmed p holds = at
 pub replaces_value : (old new : Text) (tokens : List Text) (flat : Text) (v : Data) → read flat ≡ Some v → ReplacesByText old new tokens flat → ReplacesBytes old new tokens v
 replaces_value old new tokens flat v reads h = subst (ReplacesBytes old new tokens) (one_value flat h.0 v h.1 reads) h.2
 
-pub expands : (old new : Text) (front more : List Text) (flat : Text) (v e : Data) → read flat ≡ Some e → nodes e ≡ grown more (nodes v) → ReplacesScalarByText old new front flat → ExpandsBytes old new front more v
+pub expands : (old new : Text) (front more : List Text) (flat : Text) (v e : Data) → read flat ≡ Some e → nodes e ≡ expanded more (nodes v) → ReplacesScalarByText old new front flat → ExpandsBytes old new front more v
 expands old new front more flat v e reads is h =
-    record { grows = h.0; grown_is = ap nodes (one_value flat h.0 e h.1 reads) ∙ is; replaces = h.2.0; scalar = h.2.1 }
+    record { whole = h.0; whole_is = ap nodes (one_value flat h.0 e h.1 reads) ∙ is; replaces = h.2.0; scalar = h.2.1 }
 
 -- ---- a child added
 
@@ -135,9 +135,9 @@ adds_last_element old new front x flat h p =
     let m = h.4.changes in
     (p.0, p.1, inr ((m.ds, found_is old front h.4.at (json.array m.ds) m.old (found_old old new front (ElementAppended x flat) h), place m.ds m.refers), p.2), p.3, p.4)
   where
-    place : (ds : json.Items) → (x ≡ codes "-") ⊎ (x ≡ dec (skim.items_count ds)) → (i : ℕ) × ((i ≤ skim.items_count ds) × ((x ≡ dec i) ⊎ ((x ≡ codes "-") × (i ≡ skim.items_count ds))))
-    place ds (inl dash) = (skim.items_count ds, (omega arith, inr (dash, refl)))
-    place ds (inr number) = (skim.items_count ds, (omega arith, inl number))
+    place : (ds : json.Items) → (x ≡ codes "-") ⊎ (x ≡ dec (json_search.items_count ds)) → (i : ℕ) × ((i ≤ json_search.items_count ds) × ((x ≡ dec i) ⊎ ((x ≡ codes "-") × (i ≡ json_search.items_count ds))))
+    place ds (inl dash) = (json_search.items_count ds, (omega arith, inr (dash, refl)))
+    place ds (inr number) = (json_search.items_count ds, (omega arith, inl number))
 
 pub adds_new_element : (old new : Text) (front : List Text) (x flat : Text) → ReachedInText old new front (ElementInserted x flat) → AddsPieceByText old new None flat → AddsByText old new front x flat
 adds_new_element old new front x flat h p =
@@ -147,7 +147,7 @@ adds_new_element old new front x flat h p =
 pub element_appended : (child : Child) (x flat : Text) (i : ℕ) (d d2 : Data) → child.selector.index ≡ Some i → (x ≡ codes "-") ⊎ (x ≡ dec i) → string_bytes child.value ≡ flat → Makes (edit.Append child) d d2 → ElementAppended x flat d d2
 element_appended child x flat i d d2 index refers value m =
     let a = m.2 in
-    let same : i ≡ skim.items_count a.ds = one_index i a.i (sym index ∙ a.selects) ∙ a.last in record {
+    let same : i ≡ json_search.items_count a.ds = one_index i a.i (sym index ∙ a.selects) ∙ a.last in record {
       ds = a.ds;
       ds2 = a.ds2;
       e = m.0;
@@ -161,11 +161,11 @@ element_appended child x flat i d d2 index refers value m =
     one_index : (i j : ℕ) → Some i ≡ Some j → i ≡ j
     one_index i j h = cc
 
-pub element_inserted : (child : Child) (x flat : Text) (d d2 : Data) → IsChoiceOf x (skim.choice_of child.selector) → string_bytes child.value ≡ flat → Makes (edit.Insert child) d d2 → ElementInserted x flat d d2
-element_inserted child x flat d d2 is value m = (m.0, skim.choice_of child.selector, ap read (sym value) ∙ m.1, is, m.2)
+pub element_inserted : (child : Child) (x flat : Text) (d d2 : Data) → IsChoiceOf x (json_search.choice_of child.selector) → string_bytes child.value ≡ flat → Makes (edit.Insert child) d d2 → ElementInserted x flat d d2
+element_inserted child x flat d d2 is value m = (m.0, json_search.choice_of child.selector, ap read (sym value) ∙ m.1, is, m.2)
 
-pub grows_bytes : (old new : Text) (front : List Text) (x : Text) (rest : List Text) (flat : Text) (v e : Data) → read flat ≡ Some e → nodes e ≡ grown rest (nodes v) → AddsByText old new front x flat → GrowsBytes old new front x rest v
-grows_bytes old new front x rest flat v e reads is h = (h.0, ap nodes (one_value flat h.0 e h.1 reads) ∙ is, h.2)
+pub adds_expanded_bytes : (old new : Text) (front : List Text) (x : Text) (rest : List Text) (flat : Text) (v e : Data) → read flat ≡ Some e → nodes e ≡ expanded rest (nodes v) → AddsByText old new front x flat → AddsExpandedBytes old new front x rest v
+adds_expanded_bytes old new front x rest flat v e reads is h = (h.0, ap nodes (one_value flat h.0 e h.1 reads) ∙ is, h.2)
 
 pub adds_child_at : (old new : Text) (front : List Text) (x flat : Text) → AddsByText old new front x flat → AddsAtByText old (front ++ x ∷ []) flat new
 adds_child_at old new front x flat h = (h.0, h.1, inr (front, x, refl, h.2), h.3, h.4)
@@ -177,11 +177,11 @@ pub adds_value_at : (old new : Text) (path : List Text) (flat : Text) (v : Data)
 adds_value_at old new path flat v reads h = subst (λ (e : Data). AddsAtBytes old path e new) (one_value flat h.0 v h.1 reads) h.2
 
 -- with the text of the value
-pub replaces_given : (old new : Text) (tokens : List Text) (raw : RawValue) → ReplacesByText old new tokens (string_bytes raw.text.flat) → ReplacesGiven old tokens (value_of_raw raw) (Some raw) new
-replaces_given old new tokens raw h = subst (λ (e : Data). ReplacesGiven old tokens e (Some raw) new) (one_value (string_bytes raw.text.flat) h.0 (value_of_raw raw) h.1 (raw_reads raw)) (h.2, h.4)
+pub replaces_given : (old new : Text) (tokens : List Text) (raw : RawValue) → ReplacesByText old new tokens (string_bytes raw.printed.flat) → ReplacesGiven old tokens (value_of_raw raw) (Some raw) new
+replaces_given old new tokens raw h = subst (λ (e : Data). ReplacesGiven old tokens e (Some raw) new) (one_value (string_bytes raw.printed.flat) h.0 (value_of_raw raw) h.1 (raw_reads raw)) (h.2, h.4)
 
-pub adds_given : (old new : Text) (tokens : List Text) (raw : RawValue) → AddsAtByText old tokens (string_bytes raw.text.flat) new → AddsGiven old tokens (value_of_raw raw) (Some raw) new
-adds_given old new tokens raw h = subst (λ (e : Data). AddsGiven old tokens e (Some raw) new) (one_value (string_bytes raw.text.flat) h.0 (value_of_raw raw) h.1 (raw_reads raw)) (h.2, h.4)
+pub adds_given : (old new : Text) (tokens : List Text) (raw : RawValue) → AddsAtByText old tokens (string_bytes raw.printed.flat) new → AddsGiven old tokens (value_of_raw raw) (Some raw) new
+adds_given old new tokens raw h = subst (λ (e : Data). AddsGiven old tokens e (Some raw) new) (one_value (string_bytes raw.printed.flat) h.0 (value_of_raw raw) h.1 (raw_reads raw)) (h.2, h.4)
 
 -- ---- a child cut out
 

@@ -12,20 +12,23 @@ use Rattle.jsonptr.specs.Content as tree
 use Rattle.jsonptr.specs.Content.{Content, scalar, items_len, label_of, content_at, map_of}
 use Rattle.jsonptr.specs.Json.{content, items, nodes}
 use Rattle.jsonptr.specs.Put.{put, same_step}
-use Rattle.jsonptr.specs.Growing.{is_append_index, grown}
+use Rattle.jsonptr.specs.Expansion.{is_append_index, expanded}
 use Rattle.jsonptr.specs.Assigning.{Assigns}
 use Rattle.jsonptr_tree.proofs.ContentLemmas.{map_of-sub, content_at-push, map_of-IsTree}
 use Rattle.jsonptr_tree.proofs.FollowingLemmas.{stops_in, lacks_at_leaf, lacks_at_object}
 use Rattle.jsonptr_tree.proofs.LandingLemmas.{means_end-dash, means_end-dec, lacks_at_end}
 use Rattle.jsonptr_tree.proofs.PutLemmas.{cases_same, same_by_step, put-step, put-other_step, rest_after-shorter, put_none}
 use Rattle.jsonptr_tree.proofs.AssigningLemmas.{made, made-step, made-other_step, Assigns_named, Assigns_leaf, Assigns_object_below, Assigns_end_below, Assigns-leaf, Assigns-named}
-use Rattle.jsonptr_json_search.specs.Search as skim
+use Rattle.jsonptr_json_search.specs.Search as json_search
 use Rattle.jsonptr_in_text.proofs.SearchLemmas.{len_same, member_content}
 use Rattle.jsonptr_json_edits.specs.declared.edit.Child.{Child}
+use Rattle.jsonptr_json_edits.specs.declared.edit.Edit.{Edit}
 use Rattle.jsonptr_json_edits.specs.declared.edit.Edit.TheVariants as edit
-use Rattle.jsonptr_json_edits.specs.Editing.{InsertsItem, InsertsMember, Makes}
+use Rattle.jsonptr_json_edits.specs.Editing.{AddsChosenMember, InsertsItem, InsertsMember, Makes}
+use Rattle.jsonptr_edit_in_text.specs.Bytes.{IsScalar}
+use Rattle.jsonptr_edit_in_text.specs.declared.replace.ValueEdit.{ValueEdit}
 use Rattle.jsonptr_edit_in_text.specs.EditInText.{AssignsInText}
-use Rattle.jsonptr_edit_in_text.specs.PrivateReaching.{ReachedInText, ReplacesScalar, AddsMemberAt, AppendsAt, Becomes, ScalarBecomes, MemberAdded, ElementAppended}
+use Rattle.jsonptr_edit_in_text.specs.PrivateReaching.{ReachedInText, ReplacesCut, IsValueEdit, Becomes, ScalarBecomes, MemberAdded, ElementAppended}
 use Rattle.jsonptr_edit_in_text.proofs.ReachingLemmas.{reached_so, item_content, below, same_below, other_place, other_key}
 
 pub label_there : (d at : Data) (w : Path) → content_at w (content d) ≡ Some (content at) → nodes d w ≡ Some (label_of (content at))
@@ -50,7 +53,11 @@ assigns_value old new tokens R v same h =
 
 -- ---- a scalar replaced by an expanded value
 
-pub assigns_scalar : (old new : Text) (tokens front : List Text) (x : Text) (rest : List Text) (e : Data) (v : NodeMap) → tokens ≡ front ++ x ∷ rest → nodes e ≡ grown (x ∷ rest) v → ReachedInText old new front (ReplacesScalar e) → AssignsInText old tokens v new
+-- `ReplacesScalar e d d2`: `d` is a scalar, and `d2` is `e`
+abbrev ReplacesScalar : Data → Data → Data → Type 0
+ReplacesScalar e d d2 = IsScalar d × (d2 ≡ e)
+
+pub assigns_scalar : (old new : Text) (tokens front : List Text) (x : Text) (rest : List Text) (e : Data) (v : NodeMap) → tokens ≡ front ++ x ∷ rest → nodes e ≡ expanded (x ∷ rest) v → ReachedInText old new front (ReplacesScalar e) → AssignsInText old tokens v new
 assigns_scalar old new tokens front x rest e v split is h =
     let r = h.4 in
     let leaf = r.changes.0 in
@@ -84,7 +91,11 @@ member_map ms ms2 k e h = same_by_step (nodes (json.object ms2)) (put (nodes (js
         (sym (below (content (json.object ms2)) (content e) (key k) there) ∙ sym (put-step (nodes (json.object ms)) (key k) [] (nodes e)))
     at t (inr apart) = same_below (content (json.object ms)) (content (json.object ms2)) t (others t apart) ∙ sym (put-other_step (nodes (json.object ms)) (key k) t [] (nodes e) apart)
 
-pub assigns_member : (old new : Text) (tokens front : List Text) (x : Text) (rest : List Text) (e : Data) (v : NodeMap) → tokens ≡ front ++ x ∷ rest → nodes e ≡ grown rest v → ReachedInText old new front (AddsMemberAt x e) → AssignsInText old tokens v new
+-- `AddsMemberAt x e d d2`: `d2` is the object `d` with the member `e` under the key `x`, which `d` lacks
+abbrev AddsMemberAt : Text → Data → Data → Data → Type 0
+AddsMemberAt x e d d2 = AddsChosenMember (x, None) e d d2
+
+pub assigns_member : (old new : Text) (tokens front : List Text) (x : Text) (rest : List Text) (e : Data) (v : NodeMap) → tokens ≡ front ++ x ∷ rest → nodes e ≡ expanded rest v → ReachedInText old new front (AddsMemberAt x e) → AssignsInText old tokens v new
 assigns_member old new tokens front x rest e v split is h =
     let r = h.4 in
     let a = r.changes in
@@ -92,8 +103,8 @@ assigns_member old new tokens front x rest e v split is h =
     let label : nodes h.0 r.path ≡ Some an_object = label_there h.0 (json.object a.ms) r.path there in
     let none : nodes h.0 (r.path ++ key x ∷ []) ≡ None = ap (option_map label_of) (content_at-push r.path (key x) (content h.0) (content (json.object a.ms)) there ∙ member_content x a.ms ∙ ap (option_map content) a.inserts.none) in
     let stops = stops_in (nodes h.0) tokens front x rest r.path split r.named (lacks_at_object (nodes h.0) r.path x label none) in
-    let made2 : nodes r.at2 ≡ put (sub (nodes h.0) r.path) (key x ∷ []) (grown rest v) =
-    ap nodes a.new ∙ member_map a.ms a.ms2 x e a.inserts ∙ ap (put (nodes (json.object a.ms)) (key x ∷ [])) is ∙ ap (λ (n : NodeMap). put n (key x ∷ []) (grown rest v)) (map_there h.0 (json.object a.ms) r.path there) in (
+    let made2 : nodes r.at2 ≡ put (sub (nodes h.0) r.path) (key x ∷ []) (expanded rest v) =
+    ap nodes a.new ∙ member_map a.ms a.ms2 x e a.inserts ∙ ap (put (nodes (json.object a.ms)) (key x ∷ [])) is ∙ ap (λ (n : NodeMap). put n (key x ∷ []) (expanded rest v)) (map_there h.0 (json.object a.ms) r.path there) in (
       h.0,
       h.1,
       h.2,
@@ -109,7 +120,7 @@ end_index : (len n : ℕ) (x : Text) → len ≡ n → (x ≡ codes "-") ⊎ (x 
 end_index len n x same (inl dash) = means_end-dash len x dash
 end_index len n x same (inr number) = means_end-dec len x (number ∙ ap dec (sym same))
 
-none_past : (ds : json.Items) (j : ℕ) → skim.items_count ds ≤ j → find.get_item j ds ≡ None
+none_past : (ds : json.Items) (j : ℕ) → json_search.items_count ds ≤ j → find.get_item j ds ≡ None
 none_past json.no_items j h = refl
 none_past (json.item d ds) zero h = absurd (omega (arith, h))
 none_past (json.item d ds) (suc j) h = none_past ds j (omega (arith, h))
@@ -120,14 +131,14 @@ cases_below zero (suc n) h = inl (omega arith)
 cases_below (suc j) zero h = inr (omega arith)
 cases_below (suc j) (suc n) h = ⊎_elim (λ a. inl (omega (arith, a))) (λ a. inr (omega (arith, a))) (cases_below j n (λ e. h (ap suc e)))
 
-other_items : (ds ds2 : json.Items) (e : Data) → InsertsItem (skim.items_count ds) e ds ds2 → (j : ℕ) → (j ≡ skim.items_count ds → ⊥) → find.get_item j ds2 ≡ find.get_item j ds
-other_items ds ds2 e h j apart = at (cases_below j (skim.items_count ds) apart)
+other_items : (ds ds2 : json.Items) (e : Data) → InsertsItem (json_search.items_count ds) e ds ds2 → (j : ℕ) → (j ≡ json_search.items_count ds → ⊥) → find.get_item j ds2 ≡ find.get_item j ds
+other_items ds ds2 e h j apart = at (cases_below j (json_search.items_count ds) apart)
   where
-    at : (j < skim.items_count ds) ⊎ (skim.items_count ds < j) → find.get_item j ds2 ≡ find.get_item j ds
+    at : (j < json_search.items_count ds) ⊎ (json_search.items_count ds < j) → find.get_item j ds2 ≡ find.get_item j ds
     at (inl low) = h.before j low
     at (inr high) = none_past ds2 j (omega (arith, h.one_more, high)) ∙ sym (none_past ds j (omega (arith, high)))
 
-end_map : (ds ds2 : json.Items) (e : Data) → InsertsItem (skim.items_count ds) e ds ds2 → nodes (json.array ds2) ≡ made (nodes (json.array ds)) (place (items_len (items ds)) ∷ []) (nodes e)
+end_map : (ds ds2 : json.Items) (e : Data) → InsertsItem (json_search.items_count ds) e ds ds2 → nodes (json.array ds2) ≡ made (nodes (json.array ds)) (place (items_len (items ds)) ∷ []) (nodes e)
 end_map ds ds2 e h = same_by_step (nodes (json.array ds2)) (made (nodes (json.array ds)) (place (items_len (items ds)) ∷ []) (nodes e)) label (λ t. at t (cases_same (place (items_len (items ds))) t))
   where
     label : nodes (json.array ds2) [] ≡ made (nodes (json.array ds)) (place (items_len (items ds)) ∷ []) (nodes e) []
@@ -137,7 +148,7 @@ end_map ds ds2 e h = same_by_step (nodes (json.array ds2)) (made (nodes (json.ar
         longest n = omega arith
 
     there : tree.child (place (items_len (items ds))) (content (json.array ds2)) ≡ Some (content e)
-    there = ap (λ (n : ℕ). tree.child (place n) (content (json.array ds2))) (len_same ds) ∙ item_content ds2 (skim.items_count ds) ∙ ap (option_map content) h.is
+    there = ap (λ (n : ℕ). tree.child (place n) (content (json.array ds2))) (len_same ds) ∙ item_content ds2 (json_search.items_count ds) ∙ ap (option_map content) h.is
 
     others : (t : Step) → same_step (place (items_len (items ds))) t ≡ false → tree.child t (content (json.array ds2)) ≡ tree.child t (content (json.array ds))
     others (key k) apart = refl
@@ -148,17 +159,22 @@ end_map ds ds2 e h = same_by_step (nodes (json.array ds2)) (made (nodes (json.ar
         (sym (below (content (json.array ds2)) (content e) (place (items_len (items ds))) there) ∙ sym (made-step (nodes (json.array ds)) (place (items_len (items ds))) [] (nodes e)))
     at t (inr apart) = same_below (content (json.array ds)) (content (json.array ds2)) t (others t apart) ∙ sym (made-other_step (nodes (json.array ds)) (place (items_len (items ds))) t [] (nodes e) apart)
 
-pub assigns_end : (old new : Text) (tokens front : List Text) (x : Text) (rest : List Text) (e : Data) (v : NodeMap) → tokens ≡ front ++ x ∷ rest → nodes e ≡ grown rest v → ReachedInText old new front (AppendsAt x e) → AssignsInText old tokens v new
+-- `AppendsAt x e d d2`: `d2` is the array `d` with the element `e` after its last, to which the token `x` refers
+abbrev AppendsAt : Text → Data → Data → Data → Type 0
+AppendsAt x e d d2 = (ds ds2 : json.Items) × (d ≡ json.array ds) × (d2 ≡ json.array ds2) × InsertsItem (json_search.items_count ds) e ds ds2
+    × ((x ≡ codes "-") ⊎ (x ≡ dec (json_search.items_count ds)))
+
+pub assigns_end : (old new : Text) (tokens front : List Text) (x : Text) (rest : List Text) (e : Data) (v : NodeMap) → tokens ≡ front ++ x ∷ rest → nodes e ≡ expanded rest v → ReachedInText old new front (AppendsAt x e) → AssignsInText old tokens v new
 assigns_end old new tokens front x rest e v split is h =
     let r = h.4 in
     let a = r.changes in
     let ds = a.0 in
     let there : content_at r.path (content h.0) ≡ Some (content (json.array ds)) = r.there ∙ ap (λ (d : Data). Some (content d)) a.2 in
     let label : nodes h.0 r.path ≡ Some (an_array (items_len (items ds))) = label_there h.0 (json.array ds) r.path there in
-    let means : is_append_index (items_len (items ds)) x ≡ true = end_index (items_len (items ds)) (skim.items_count ds) x (len_same ds) a.5 in
+    let means : is_append_index (items_len (items ds)) x ≡ true = end_index (items_len (items ds)) (json_search.items_count ds) x (len_same ds) a.5 in
     let stops = stops_in (nodes h.0) tokens front x rest r.path split r.named (lacks_at_end (nodes h.0) r.path x (items_len (items ds)) label means) in
-    let made2 : nodes r.at2 ≡ made (sub (nodes h.0) r.path) (place (items_len (items ds)) ∷ []) (grown rest v) =
-    ap nodes a.3 ∙ end_map ds a.1 e a.4 ∙ ap (made (nodes (json.array ds)) (place (items_len (items ds)) ∷ [])) is ∙ ap (λ (n : NodeMap). made n (place (items_len (items ds)) ∷ []) (grown rest v)) (map_there h.0 (json.array ds) r.path there) in (
+    let made2 : nodes r.at2 ≡ made (sub (nodes h.0) r.path) (place (items_len (items ds)) ∷ []) (expanded rest v) =
+    ap nodes a.3 ∙ end_map ds a.1 e a.4 ∙ ap (made (nodes (json.array ds)) (place (items_len (items ds)) ∷ [])) is ∙ ap (λ (n : NodeMap). made n (place (items_len (items ds)) ∷ []) (expanded rest v)) (map_there h.0 (json.array ds) r.path there) in (
       h.0,
       h.1,
       h.2,
@@ -170,10 +186,10 @@ assigns_end old new tokens front x rest e v split is h =
 
 -- ---- an expanded value
 
-pub expanded : (c : Content) (tokens : List Text) (v m : NodeMap) (old : Option NodeMap) → c ≡ scalar (of_json json.null) → Assigns (map_of c) tokens v m old → m ≡ grown tokens v
-expanded c tokens v m old null h = on_null tokens v m old (subst (λ (x : Content). Assigns (map_of x) tokens v m old) null h)
+pub null_expanded : (c : Content) (tokens : List Text) (v m : NodeMap) (old : Option NodeMap) → c ≡ scalar (of_json json.null) → Assigns (map_of c) tokens v m old → m ≡ expanded tokens v
+null_expanded c tokens v m old null h = on_null tokens v m old (subst (λ (x : Content). Assigns (map_of x) tokens v m old) null h)
   where
-    on_null : (tokens : List Text) (v m : NodeMap) (old : Option NodeMap) → Assigns (nodes json.null) tokens v m old → m ≡ grown tokens v
+    on_null : (tokens : List Text) (v m : NodeMap) (old : Option NodeMap) → Assigns (nodes json.null) tokens v m old → m ≡ expanded tokens v
     on_null [] v m old h = ((Assigns-named (nodes json.null) [] v m old [] refl).0 h).0
     on_null (x ∷ rest) v m old h =
         ((Assigns-leaf (nodes json.null) (x ∷ rest) [] x rest v m old [] (of_json json.null) (stops_in (nodes json.null) (x ∷ rest) [] x rest [] refl refl (lacks_at_leaf (nodes json.null) [] x (of_json json.null) refl)) refl).0 h).0
@@ -202,6 +218,13 @@ scalar_label c a h = (a, ap label_of h)
 
 -- ---- what an edit does, by the text of its value
 
+pub value_edit_reaches : (r : Result (Option (String Global)) AllocError) (old : Text) (tokens : List Text) (middle flat : Text) (made : ValueEdit) → IsValueEdit middle flat made
+    → IfOk r (λ o. IfSome o (λ s. ReachedInText old (string_bytes s) tokens (Makes made.edit))) → IfOk r (λ o. IfSome o (λ s. ReachedInText old (string_bytes s) tokens (ReplacesCut middle flat)))
+value_edit_reaches r old tokens middle flat made is h =
+    subst (λ (w : Text). IfOk r (λ o. IfSome o (λ s. ReachedInText old (string_bytes s) tokens (ReplacesCut w flat)))) is.old
+    (subst (λ (f : Text). IfOk r (λ o. IfSome o (λ s. ReachedInText old (string_bytes s) tokens (ReplacesCut (string_bytes is.before) f)))) is.new
+    (subst (λ (e : Edit). IfOk r (λ o. IfSome o (λ s. ReachedInText old (string_bytes s) tokens (Makes e)))) is.edit h))
+
 pub of_value : (old new : Text) (tokens : List Text) (flat : Text) (v : Data) → read flat ≡ Some v → ReachedInText old new tokens (Becomes flat) → AssignsInText old tokens (nodes v) new
 of_value old new tokens flat v is h = assigns_value old new tokens (Becomes flat) v (λ at at2 m. same_data at2 v (sym m ∙ is)) h
 
@@ -212,7 +235,7 @@ pub of_member : (old new : Text) (front : List Text) (x flat : Text) (e : Data) 
 of_member old new front x flat e is h = reached_so old new front (MemberAdded x flat) (AddsMemberAt x e) (λ d d2 m. subst (λ (y : Data). AddsMemberAt x y d d2) (same_data m.0 e (sym m.1 ∙ is)) m.2) h
 
 pub of_element : (old new : Text) (front : List Text) (x flat : Text) (e : Data) → read flat ≡ Some e → ReachedInText old new front (ElementAppended x flat) → ReachedInText old new front (AppendsAt x e)
-of_element old new front x flat e is h = reached_so old new front (ElementAppended x flat) (AppendsAt x e) (λ d d2 m. (m.ds, m.ds2, m.old, m.new, subst (λ (y : Data). InsertsItem (skim.items_count m.ds) y m.ds m.ds2) (same_data m.e e (sym m.reads ∙ is)) m.inserts, m.refers)) h
+of_element old new front x flat e is h = reached_so old new front (ElementAppended x flat) (AppendsAt x e) (λ d d2 m. (m.ds, m.ds2, m.old, m.new, subst (λ (y : Data). InsertsItem (json_search.items_count m.ds) y m.ds m.ds2) (same_data m.e e (sym m.reads ∙ is)) m.inserts, m.refers)) h
 
 pub member_made : (child : Child) (x flat : Text) (d d2 : Data) → string_bytes child.selector.key ≡ x → string_bytes child.value ≡ flat → Makes (edit.Add child) d d2 → MemberAdded x flat d d2
 member_made child x flat d d2 named value m = (

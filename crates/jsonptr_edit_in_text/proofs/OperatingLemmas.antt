@@ -1,7 +1,6 @@
 -- One operation of a patch in a text, in the words of patches.
-use Rattle.std.proofs.Common.{◌≡◌, ℕ, suc, ◌<◌, ◌≤◌, List, [], ◌∷◌, ◌++◌, Option, Some, None, option_map, option_and_then, ◌⊎◌, inl, inr, String, string_bytes, codes, refl, sym, ap, ◌∙◌, subst, arith}
+use Rattle.std.proofs.Common.{◌≡◌, ℕ, suc, ◌<◌, ◌≤◌, List, [], ◌∷◌, ◌++◌, Option, Some, None, option_map, option_and_then, ◌⊎◌, inl, inr, string_bytes, codes, refl, sym, ap, ◌∙◌, subst, arith}
 use mathlib.Core.Path.{fun_ext}
-use Rattle.std.specs.declared.alloc.Global.{Global}
 use Rattle.serde_json.specs.Data as json
 use Rattle.serde_json.specs.Data.{Data}
 use Rattle.serde_json.specs.Read.{read}
@@ -16,7 +15,7 @@ use Rattle.jsonptr.specs.Put.{put}
 use Rattle.jsonptr.specs.Removing.{Deletes}
 use Rattle.jsonptr_tree.proofs.JsonLemmas.{FindsValue-Finds}
 use Rattle.jsonptr_tree.proofs.PutLemmas.{same_by_step, put_below}
-use Rattle.jsonptr_json_search.specs.Search as skim
+use Rattle.jsonptr_json_search.specs.Search as json_search
 use Rattle.jsonptr_json_search.specs.Search.{Choice}
 use Rattle.jsonptr_in_text.specs.Selecting.{AreChoicesOf}
 use Rattle.jsonptr_in_text.proofs.SearchLemmas.{len_same, found}
@@ -35,7 +34,8 @@ use Rattle.jsonptr_json_edits.specs.Leading.{LeadsInText}
 use Rattle.jsonptr_json_edits.specs.declared.edit.Edit.TheVariants.{Replace}
 use Rattle.jsonptr_edit_in_text.specs.EditInText.{DeletesInText}
 use Rattle.jsonptr_edit_in_text.specs.PatchInText.{PatchesInText}
-use Rattle.jsonptr_edit_in_text.specs.PrivateReaching.{ReachedInText, Becomes, ReplacesCut, MemberAdded, ElementAppended}
+use Rattle.jsonptr_edit_in_text.specs.declared.replace.ValueEdit.{ValueEdit}
+use Rattle.jsonptr_edit_in_text.specs.PrivateReaching.{ReachedInText, Becomes, ReplacesCut, IsValueEdit, MemberAdded, ElementAppended}
 use Rattle.jsonptr_edit_in_text.specs.PrivateOperating.{OperatesInText, PutsInText, AddsValueInText, AddsInText, FindsText, MovesInText, CopiesInText, PassesInText, ElementInserted, AreMemberChoices}
 use Rattle.jsonptr_edit_in_text.proofs.EditLemmas.{same_data, label_there, map_there, member_map}
 use Rattle.jsonptr_edit_in_text.proofs.ReachingLemmas.{item_content, below, same_below, put_level, in_object, reached_in_text}
@@ -137,7 +137,7 @@ pub adds_last : (old new : Text) (front : List Text) (x flat : Text) → Reached
 adds_last old new front x flat h =
     let r = h.4 in
     let a = r.changes in
-    (h.0, h.1, a.e, h.2, h.3, a.reads, inr (below_array h.0 h.1 r.at r.at2 a.e front x r.path a.ds (skim.items_count a.ds) r.named r.there r.made a.old (ap nodes a.new ∙ element_map a.ds a.ds2 (skim.items_count a.ds) a.e a.inserts) (means (skim.items_count a.ds) (items_len (items a.ds)) (len_same a.ds) a.refers)))
+    (h.0, h.1, a.e, h.2, h.3, a.reads, inr (below_array h.0 h.1 r.at r.at2 a.e front x r.path a.ds (json_search.items_count a.ds) r.named r.there r.made a.old (ap nodes a.new ∙ element_map a.ds a.ds2 (json_search.items_count a.ds) a.e a.inserts) (means (json_search.items_count a.ds) (items_len (items a.ds)) (len_same a.ds) a.refers)))
   where
     means : (n len : ℕ) → len ≡ n → (x ≡ codes "-") ⊎ (x ≡ dec n) → MeansPlace len x n
     means n len same (inl dash) = (omega (arith, same), inr (dash, sym same))
@@ -166,11 +166,11 @@ reached_child old new front x cs R are h =
     reached_in_text old new front are.0 (ChangesChild (x, None) R) are.2
     (h.0, h.1, h.2, h.3, changes_last are.0 (x, None) R h.0 h.1 (subst (λ (ss : List Choice). ChangesAt ss R h.0 h.1) are.1 h.4))
 
-pub replaced_cut : (old cut new : Text) (front : List Text) (x : Text) (cs : List Choice) (before after : String Global) (middle flat : Text) → cut ≡ old → AreMemberChoices front x cs → string_bytes before ≡ middle → string_bytes after ≡ flat → IsEdited cut new cs (Replace before after) → ReachedInText old new front (ChangesChild (x, None) (ReplacesCut middle flat))
-replaced_cut old cut new front x cs before after middle flat same are is_middle is_flat h =
-    subst (λ (w : Text). ReachedInText old new front (ChangesChild (x, None) (ReplacesCut w flat))) is_middle
-    (subst (λ (f : Text). ReachedInText old new front (ChangesChild (x, None) (ReplacesCut (string_bytes before) f))) is_flat
-    (reached_child old new front x cs (ReplacesCut (string_bytes before) (string_bytes after)) are (subst (λ (t : Text). IsEdited t new cs (Replace before after)) same h)))
+pub replaced_cut : (old cut new : Text) (front : List Text) (x : Text) (cs : List Choice) (middle flat : Text) (made : ValueEdit) → cut ≡ old → AreMemberChoices front x cs → IsValueEdit middle flat made → IsEdited cut new cs made.edit → ReachedInText old new front (ChangesChild (x, None) (ReplacesCut middle flat))
+replaced_cut old cut new front x cs middle flat made same are is h =
+    subst (λ (w : Text). ReachedInText old new front (ChangesChild (x, None) (ReplacesCut w flat))) is.old
+    (subst (λ (f : Text). ReachedInText old new front (ChangesChild (x, None) (ReplacesCut (string_bytes is.before) f))) is.new
+    (reached_child old new front x cs (ReplacesCut (string_bytes is.before) (string_bytes is.after)) are (subst (λ (t : Text). IsEdited t new cs (Replace is.before is.after)) same (subst (IsEdited cut new cs) is.edit h))))
 
 pub adds_in_place_of : (old new : Text) (front : List Text) (x middle flat : Text) → ReachedInText old new front (ChangesChild (x, None) (ReplacesCut middle flat)) → AddsInText old (front ++ x ∷ []) flat new
 adds_in_place_of old new front x middle flat h = at h.4.changes

@@ -23,8 +23,8 @@ use Rattle.jsonptr_edit_in_text.proofs.EditLemmas.{if_new}
 
 -- ---- bytes
 
-pub raw_bytes_push : (old mid new : Text) (rs : List RawOperation) (r : RawOperation) → RawPatchBytes old rs mid → GivenBytes mid r.operation r.text new → RawPatchBytes old (rs ++ r ∷ []) new
-raw_bytes_push old mid new [] r h last = (new, subst (λ (t : Text). GivenBytes t r.operation r.text new) h last, refl)
+pub raw_bytes_push : (old mid new : Text) (rs : List RawOperation) (r : RawOperation) → RawPatchBytes old rs mid → GivenBytes mid r.operation r.raw new → RawPatchBytes old (rs ++ r ∷ []) new
+raw_bytes_push old mid new [] r h last = (new, subst (λ (t : Text). GivenBytes t r.operation r.raw new) h last, refl)
 raw_bytes_push old mid new (q ∷ rs) r h last = (h.0, h.1, raw_bytes_push h.0 mid new rs r h.2 last)
 
 -- the texts of values left aside, the bytes are those of the operations
@@ -38,7 +38,7 @@ bytes_of old (Test path value) text new h = h
 
 pub patch_bytes : (old new : Text) (rs : List RawOperation) → RawPatchBytes old rs new → PatchBytes old (operations_in rs) new
 patch_bytes old new [] h = h
-patch_bytes old new (r ∷ rs) h = (h.0, bytes_of old r.operation r.text h.0 h.1, patch_bytes h.0 new rs h.2)
+patch_bytes old new (r ∷ rs) h = (h.0, bytes_of old r.operation r.raw h.0 h.1, patch_bytes h.0 new rs h.2)
 
 pub kept_bytes : (r : Result Edited (EditError PatchError)) (old : Text) (rs : List RawOperation) (os : List Operation) → operations_in rs ≡ os → IfOk r (KeepsBytes (RawPatchBytes old rs)) → IfOk r (KeepsBytes (PatchBytes old os))
 kept_bytes (Err e) old rs os same h = h

@@ -16,7 +16,7 @@ use Rattle.jsonptr_tree.proofs.NodeLemmas.{Names-push}
 use Rattle.jsonptr_tree.proofs.PutLemmas.{cases_same, same_by_step, put-sub, put-put, sub-put, put_at, Names-put}
 use Rattle.jsonptr_tree.proofs.AssigningLemmas.{Assigns-named}
 use Rattle.jsonptr_tree.proofs.RemovingLemmas.{Deletes_whole, Deletes_child, place_before-below, place_before-from, without_key-same, without_key-other}
-use Rattle.jsonptr_json_search.specs.Search as skim
+use Rattle.jsonptr_json_search.specs.Search as json_search
 use Rattle.jsonptr_json_search.specs.Search.{Choice}
 use Rattle.jsonptr_in_text.specs.Selecting.{IsChoiceOf}
 use Rattle.jsonptr_in_text.proofs.SearchLemmas.{len_same, member_content}
@@ -63,7 +63,7 @@ without_element : (ds ds2 : json.Items) (i : ℕ) (e : Data) → InsertsItem i e
 without_element ds ds2 i e h = same_by_step (nodes (json.array ds)) (without_place i (nodes (json.array ds2))) label at
   where
     label : nodes (json.array ds) [] ≡ one_less (nodes (json.array ds2) [])
-    label = ap (λ (n : ℕ). Some (an_array n)) (len_same ds ∙ less (skim.items_count ds) ∙ ap (λ (n : ℕ). n - 1) (sym h.one_more) ∙ ap (λ (n : ℕ). n - 1) (sym (len_same ds2)))
+    label = ap (λ (n : ℕ). Some (an_array n)) (len_same ds ∙ less (json_search.items_count ds) ∙ ap (λ (n : ℕ). n - 1) (sym h.one_more) ∙ ap (λ (n : ℕ). n - 1) (sym (len_same ds2)))
       where
         less : (n : ℕ) → n ≡ suc n - 1
         less n = omega arith

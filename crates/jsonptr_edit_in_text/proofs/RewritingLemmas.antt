@@ -9,7 +9,7 @@ use Rattle.jsonptr.specs.Node.{Step, key, place, Path, Label, an_object, an_arra
 use Rattle.jsonptr.specs.Following.{StopsAt}
 use Rattle.jsonptr.specs.Json.{nodes, HasSortedKeys}
 use Rattle.jsonptr.specs.Put.{put}
-use Rattle.jsonptr.specs.Growing.{is_append_index, with_one, grown}
+use Rattle.jsonptr.specs.Expansion.{is_append_index, with_one, expanded}
 use Rattle.jsonptr.specs.Landing.{LandsFrom, Lands}
 use Rattle.jsonptr.specs.Assigning.{with_room, found_at, Assigns}
 use Rattle.jsonptr_tree.proofs.NodeLemmas.{Names-length}
@@ -128,7 +128,7 @@ lands_above k n tokens p left h long lands = go lands.rest lands.stops lands.lan
 one_level : (l : Label) (s : Step) (m : NodeMap) (q : Path) → IsContainer (m q) → IsContainer (with_one l s m (s ∷ q))
 one_level l s m q c = subst IsContainer (sym (ap (λ (b : Bool). cond b (m q) None) (same_step-refl s))) c
 
-last_container : (x : Text) (xs : List Text) (v : NodeMap) → (q : Path) × (length q ≡ length xs) × IsContainer (grown (x ∷ xs) v q)
+last_container : (x : Text) (xs : List Text) (v : NodeMap) → (q : Path) × (length q ≡ length xs) × IsContainer (expanded (x ∷ xs) v q)
 last_container x [] v = ([], refl, go (is_append_index 0 x))
   where
     go : (b : Bool) → IsContainer (cond b (with_one (an_array 1) (place 0) v) (with_one an_object (key x) v) [])
@@ -136,14 +136,14 @@ last_container x [] v = ([], refl, go (is_append_index 0 x))
     go false = tt
 last_container x (y ∷ ys) v = go (last_container y ys v) (is_append_index 0 x)
   where
-    go : (q : Path) × (length q ≡ length ys) × IsContainer (grown (y ∷ ys) v q) → (b : Bool) → (p : Path) × (length p ≡ length (y ∷ ys)) × IsContainer (cond b (with_one (an_array 1) (place 0) (grown (y ∷ ys) v)) (with_one an_object (key x) (grown (y ∷ ys) v)) p)
-    go r true = (place 0 ∷ r.0, ap suc r.1, one_level (an_array 1) (place 0) (grown (y ∷ ys) v) r.0 r.2)
-    go r false = (key x ∷ r.0, ap suc r.1, one_level an_object (key x) (grown (y ∷ ys) v) r.0 r.2)
+    go : (q : Path) × (length q ≡ length ys) × IsContainer (expanded (y ∷ ys) v q) → (b : Bool) → (p : Path) × (length p ≡ length (y ∷ ys)) × IsContainer (cond b (with_one (an_array 1) (place 0) (expanded (y ∷ ys) v)) (with_one an_object (key x) (expanded (y ∷ ys) v)) p)
+    go r true = (place 0 ∷ r.0, ap suc r.1, one_level (an_array 1) (place 0) (expanded (y ∷ ys) v) r.0 r.2)
+    go r false = (key x ∷ r.0, ap suc r.1, one_level an_object (key x) (expanded (y ∷ ys) v) r.0 r.2)
 
-put-deep : (k : ℕ) (n : NodeMap) (p : Path) (x : Text) (xs : List Text) (v : NodeMap) → k < length p + length (x ∷ xs) → NestsWithin k (put n p (grown (x ∷ xs) v)) → ⊥
+put-deep : (k : ℕ) (n : NodeMap) (p : Path) (x : Text) (xs : List Text) (v : NodeMap) → k < length p + length (x ∷ xs) → NestsWithin k (put n p (expanded (x ∷ xs) v)) → ⊥
 put-deep k n p x xs v long h =
     let last = last_container x xs v in
-    let there : IsContainer (put n p (grown (x ∷ xs) v) (p ++ last.0)) = subst IsContainer (sym (put_behind n p (grown (x ∷ xs) v) last.0)) last.2 in
+    let there : IsContainer (put n p (expanded (x ∷ xs) v) (p ++ last.0)) = subst IsContainer (sym (put_behind n p (expanded (x ∷ xs) v) last.0)) last.2 in
     let low : length (p ++ last.0) < k = h (p ++ last.0) there in
     let len : length (p ++ last.0) ≡ length p + length last.0 = length-append p last.0 in
     let same : length last.0 ≡ length xs = last.1 in
@@ -157,12 +157,12 @@ Assigns-above k n tokens v m old h long made more =
     let all : length (made.left ++ more) ≡ length made.left + length more = length-append made.left more in
     let same : length (made.left ++ more) ≡ length (above.x ∷ (above.xs ++ more)) = ap length left in
     let levels : k < length made.path + length made.left = above.levels in (
-      put (with_room n made.path) made.path (grown (made.left ++ more) v),
+      put (with_room n made.path) made.path (expanded (made.left ++ more) v),
       found_at n made.path,
       record { path = made.path; left = made.left ++ more; lands = above.more more; made = refl; replaced = refl },
       λ within. put-deep k (with_room n made.path) made.path above.x (above.xs ++ more) v
           (omega (arith, all, same, levels))
-          (subst (λ (ts : List Text). NestsWithin k (put (with_room n made.path) made.path (grown ts v))) left within),
+          (subst (λ (ts : List Text). NestsWithin k (put (with_room n made.path) made.path (expanded ts v))) left within),
     )
 
 Assigns-deep : (k : ℕ) (n : NodeMap) (tokens : List Text) (v m : NodeMap) (old : Option NodeMap) → NestsWithin k n → k < length tokens → Assigns n tokens v m old → NestsWithin k m → ⊥
@@ -171,7 +171,7 @@ Assigns-deep k n tokens v m old h long made within =
     let same : length made.left ≡ length (above.x ∷ above.xs) = ap length above.some in
     let levels : k < length made.path + length made.left = above.levels in
     put-deep k (with_room n made.path) made.path above.x above.xs v (omega (arith, levels, same))
-    (subst (λ (ts : List Text). NestsWithin k (put (with_room n made.path) made.path (grown ts v))) above.some (subst (NestsWithin k) made.made within))
+    (subst (λ (ts : List Text). NestsWithin k (put (with_room n made.path) made.path (expanded ts v))) above.some (subst (NestsWithin k) made.made within))
 
 -- a document that is read is not deeper than the levels of a text
 read-within : (text : Text) (d : Data) → read text ≡ Some d → NestsWithin max_depth (nodes d)

@@ -15,7 +15,7 @@ use Rattle.serde_json.specs.Data.{Data, array, object, no_items, item, no_member
 use Rattle.serde_json.specs.Read.{of_json, max_depth, read}
 use Rattle.jsonptr.specs.Text.{Text}
 use Rattle.jsonptr.specs.Node.{key, place, Path, an_object, an_array}
-use Rattle.jsonptr.specs.Growing.{is_append_index, with_one, grown}
+use Rattle.jsonptr.specs.Expansion.{is_append_index, with_one, expanded}
 use Rattle.jsonptr.specs.Content.{label_of, content_at}
 use Rattle.jsonptr.specs.Json.{content, nodes}
 use Rattle.jsonptr_json_edits.specs.Alike.{HoldsTokens}
@@ -113,7 +113,7 @@ one_member k d = fun_ext at
     at (place i ∷ p) = refl
     at (key l ∷ p) = at_key d p (bytes_eq l k) (bytes_eq k l) (same_key k l)
 
-means_wrapped : (xs : List Text) (j : Json) (v e : Data) → of_json j ≡ Some v → of_json (wrapped_json xs j) ≡ Some e → nodes e ≡ grown xs (nodes v)
+means_wrapped : (xs : List Text) (j : Json) (v e : Data) → of_json j ≡ Some v → of_json (wrapped_json xs j) ≡ Some e → nodes e ≡ expanded xs (nodes v)
 means_wrapped [] j v e h g = ap nodes (same_data e v (sym g ∙ h))
 means_wrapped (x ∷ xs) j v e h g = at (λ d is. means_wrapped xs j v d h is) (is_append_index 0 x) g
   where
@@ -121,26 +121,26 @@ means_wrapped (x ∷ xs) j v e h g = at (λ d is. means_wrapped xs j v d h is) (
     inner = wrapped_json xs j
 
     Below : Type 0
-    Below = (d : Data) → of_json inner ≡ Some d → nodes d ≡ grown xs (nodes v)
+    Below = (d : Data) → of_json inner ≡ Some d → nodes d ≡ expanded xs (nodes v)
 
-    of_element : Below → (o : Option Data) → of_json inner ≡ o → option_map array (option_and_then (λ d. option_map (item d) (Some no_items)) o) ≡ Some e → nodes e ≡ with_one (an_array 1) (place 0) (grown xs (nodes v))
+    of_element : Below → (o : Option Data) → of_json inner ≡ o → option_map array (option_and_then (λ d. option_map (item d) (Some no_items)) o) ≡ Some e → nodes e ≡ with_one (an_array 1) (place 0) (expanded xs (nodes v))
     of_element below None is k = absurd (cc)
     of_element below (Some d) is k =
         let same : e ≡ array (item d no_items) = cc in
         ap nodes same ∙ one_element d ∙ ap (with_one (an_array 1) (place 0)) (below d is)
 
-    of_member : Below → (o : Option Data) → of_json inner ≡ o → option_map object (option_and_then (λ d. Some (put x d no_members)) o) ≡ Some e → nodes e ≡ with_one an_object (key x) (grown xs (nodes v))
+    of_member : Below → (o : Option Data) → of_json inner ≡ o → option_map object (option_and_then (λ d. Some (put x d no_members)) o) ≡ Some e → nodes e ≡ with_one an_object (key x) (expanded xs (nodes v))
     of_member below None is k = absurd (cc)
     of_member below (Some d) is k =
         let same : e ≡ object (put x d no_members) = cc in
         ap nodes same ∙ one_member x d ∙ ap (with_one an_object (key x)) (below d is)
 
     at : Below → (b : Bool) → of_json (cond b (json.array (json.item inner json.no_items)) (json.object (json.member x inner json.no_members))) ≡ Some e
-        → nodes e ≡ cond b (with_one (an_array 1) (place 0) (grown xs (nodes v))) (with_one an_object (key x) (grown xs (nodes v)))
+        → nodes e ≡ cond b (with_one (an_array 1) (place 0) (expanded xs (nodes v))) (with_one an_object (key x) (expanded xs (nodes v)))
     at below true k = of_element below (of_json inner) refl k
     at below false k = of_member below (of_json inner) refl k
 
-pub wrapped_means : (xs : List Text) (flat outer : Text) (v e : Data) → read flat ≡ Some v → read outer ≡ Some e → tokens outer ≡ wrapped xs (tokens flat) → nodes e ≡ grown xs (nodes v)
+pub wrapped_means : (xs : List Text) (flat outer : Text) (v e : Data) → read flat ≡ Some v → read outer ≡ Some e → tokens outer ≡ wrapped xs (tokens flat) → nodes e ≡ expanded xs (nodes v)
 wrapped_means xs flat outer v e h g same =
     let i = is_read flat v h in
     let o = is_read outer e g in
@@ -148,19 +148,19 @@ wrapped_means xs flat outer v e h g same =
     means_wrapped xs i.tree v e i.means (ap of_json (sym one) ∙ o.means)
 
 -- the text of a raw value is read as its value
-pub raw_reads : (raw : RawValue) → read (string_bytes raw.text.flat) ≡ Some (value_of_raw raw)
-raw_reads raw = at (read (string_bytes raw.text.flat)) raw.is_json
+pub raw_reads : (raw : RawValue) → read (string_bytes raw.printed.flat) ≡ Some (value_of_raw raw)
+raw_reads raw = at (read (string_bytes raw.printed.flat)) raw.is_json
   where
     at : (o : Option Data) → is_some o ≡ true → o ≡ Some (or_null o)
     at None h = absurd (true≢false (sym h))
     at (Some d) h = refl
 
-pub expanded_if : (r : Result (Option ValueText) AllocError) (ts : List Text) (raw : RawValue) (flat : Text) → tokens flat ≡ wrapped ts (tokens (string_bytes raw.text.flat))
+pub expanded_if : (r : Result (Option ValueText) AllocError) (ts : List Text) (raw : RawValue) (flat : Text) → tokens flat ≡ wrapped ts (tokens (string_bytes raw.printed.flat))
     → IfOk r (λ o. IfSome o (λ t. tokens (string_bytes t.flat) ≡ tokens flat)) → IfOk r (λ o. IfSome o (λ t. (e : Data) × (read (string_bytes t.flat) ≡ Some e))) → IfOk r (λ o. IfSome o (IsExpanded ts (nodes (value_of_raw raw))))
 expanded_if (Err e) ts raw flat same h g = h
 expanded_if (Ok None) ts raw flat same h g = h
 expanded_if (Ok (Some t)) ts raw flat same h g =
-    (g.0, g.1, wrapped_means ts (string_bytes raw.text.flat) (string_bytes t.flat) (value_of_raw raw) g.0 (raw_reads raw) g.1 (h ∙ same))
+    (g.0, g.1, wrapped_means ts (string_bytes raw.printed.flat) (string_bytes t.flat) (value_of_raw raw) g.0 (raw_reads raw) g.1 (h ∙ same))
 
 -- the tokens of a text that is laid out
 pub tokens_if : (r : Result (Option ValueText) AllocError) (flat : Text) (ts : List Token) → tokens flat ≡ ts → IfOk r (λ o. IfSome o (λ t. tokens (string_bytes t.flat) ≡ tokens flat)) → IfOk r (λ o. IfSome o (λ t. tokens (string_bytes t.flat) ≡ ts))

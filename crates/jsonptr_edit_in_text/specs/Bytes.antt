@@ -6,7 +6,7 @@ use Rattle.serde_json.specs.Find.{get_member, get_item}
 use Rattle.jsonptr.specs.Text.{Text, dec}
 use Rattle.jsonptr.specs.Node.{Scalar, a_leaf}
 use Rattle.jsonptr.specs.Content.{label_of}
-use Rattle.jsonptr.specs.Growing.{grown}
+use Rattle.jsonptr.specs.Expansion.{expanded}
 use Rattle.jsonptr.specs.Json.{content, nodes}
 use Rattle.jsonptr_json_search.specs.Search.{items_count}
 use Rattle.jsonptr_in_text.specs.InText.{FindsInText}
@@ -34,9 +34,9 @@ pub record ReplacesBytes (old new : Text) (tokens : List Text) (e : Data) : Type
 -- `ExpandsBytes old new front more v`: `tokens` lead no further than `front`, to a scalar, and exactly its text is replaced
 -- by a text of `v` expanded by `more`
 pub record ExpandsBytes (old new : Text) (front more : List Text) (v : Data) : Type 0 where
-  pub grows : Data
-  pub grown_is : nodes grows ≡ grown more (nodes v)
-  pub replaces : ReplacesBytes old new front grows
+  pub whole : Data
+  pub whole_is : nodes whole ≡ expanded more (nodes v)
+  pub replaces : ReplacesBytes old new front whole
   pub scalar : IsScalar replaces.value
 
 -- `AddsPiece old new key e`: `new` is the text `old` with the text of one child more, a member with the key or an element if
@@ -67,9 +67,9 @@ abbrev pub child_piece : (old new : Text) (front : List Text) (x : Text) (e : Da
 child_piece old new front x e (inl b) = b.1.piece
 child_piece old new front x e (inr b) = b.1.piece
 
--- `GrowsBytes old new front x rest v`: the same as `AddsBytes` with `v` expanded by the tokens after `x`
-abbrev pub GrowsBytes : Text → Text → List Text → Text → List Text → Data → Type 0
-GrowsBytes old new front x rest v = (e : Data) × (nodes e ≡ grown rest (nodes v)) × AddsBytes old new front x e
+-- `AddsExpandedBytes old new front x rest v`: the same as `AddsBytes` with `v` expanded by the tokens after `x`
+abbrev pub AddsExpandedBytes : Text → Text → List Text → Text → List Text → Data → Type 0
+AddsExpandedBytes old new front x rest v = (e : Data) × (nodes e ≡ expanded rest (nodes v)) × AddsBytes old new front x e
 
 -- `CutsBytes old new key v`: `new` is the text `old` without the text of one child, a member with the key or an element if
 -- there is none, with the value `v`, at most one comma, and white space
@@ -116,7 +116,7 @@ abbrev pub AssignsBytes : Text → List Text → Data → Text → Type 0
 AssignsBytes old tokens v new =
     ReplacesBytes old new tokens v
     ⊎ ((front : List Text) × (x : Text) × (rest : List Text) × (tokens ≡ front ++ x ∷ rest)
-    × (ExpandsBytes old new front (x ∷ rest) v ⊎ GrowsBytes old new front x rest v))
+    × (ExpandsBytes old new front (x ∷ rest) v ⊎ AddsExpandedBytes old new front x rest v))
 
 -- `DeletesBytes old tokens new`: the text of the root is replaced by one of null, or the text of each child that the last
 -- token selects is cut out: of several members with the same key, all

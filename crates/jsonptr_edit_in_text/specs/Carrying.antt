@@ -15,7 +15,7 @@ or_null (Some d) = d
 
 -- `value_of_raw raw` is the value that the text of `raw` is read as
 abbrev pub value_of_raw : RawValue → Data
-value_of_raw raw = or_null (read (string_bytes raw.text.flat))
+value_of_raw raw = or_null (read (string_bytes raw.printed.flat))
 
 -- `Carries given new`: a part of the text `new` has the tokens of the text `given`, all of them in their order, and before and
 -- after them those of the arrays and objects that path expansion makes around them. The part has no white space around it

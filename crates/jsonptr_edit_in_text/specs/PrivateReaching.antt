@@ -1,17 +1,22 @@
 -- Words of private clauses: two values that differ at the location of some tokens.
-use Rattle.std.specs.Prelude.{◌≡◌, ◌⊎◌, List, Option, Some, None, codes, string_bytes}
+use Rattle.std.specs.Prelude.{◌≡◌, ◌⊎◌, List, Option, String, Some, None, codes, string_bytes}
+use Rattle.std.specs.declared.alloc.Global.{Global}
 use Rattle.serde_json.specs.Data.{Data, array, Items}
 use Rattle.serde_json.specs.Read.{read}
 use Rattle.jsonptr_json_search.specs.Search.{items_count}
 use Rattle.jsonptr_json_edits.specs.Alike.{HoldsTokens}
+use Rattle.jsonptr_json_edits.specs.Child.{IsValueText}
+use Rattle.jsonptr_json_edits.specs.Spacing.{IsTrimmed}
+use Rattle.jsonptr_json_edits.specs.declared.edit.Edit.TheVariants.{Replace}
 use Rattle.jsonptr_json_edits.specs.Editing.{AddsChosenMember, InsertsItem}
 use Rattle.jsonptr.specs.Text.{Text, dec}
 use Rattle.jsonptr.specs.Node.{Path, NodeMap, Names}
 use Rattle.jsonptr.specs.Content.{content_at}
 use Rattle.jsonptr.specs.Json.{content, nodes}
 use Rattle.jsonptr.specs.Put.{put}
-use Rattle.jsonptr.specs.Growing.{grown}
+use Rattle.jsonptr.specs.Expansion.{expanded}
 use Rattle.jsonptr_json_edits.specs.declared.value_text.ValueText.{ValueText}
+use Rattle.jsonptr_edit_in_text.specs.declared.replace.ValueEdit.{ValueEdit}
 use Rattle.jsonptr_edit_in_text.specs.Bytes.{IsScalar, ReplacesBytes, AddsPiece, AddsBytes, child_piece}
 
 -- `Reached R d d2 tokens`: the tokens name a path of `d`, and `d2` is `d` with another value there, which `R` relates to the old
@@ -31,22 +36,21 @@ pub record Reached (R : Data → Data → Type 0) (d d2 : Data) (tokens : List T
 abbrev pub ReachedInText : Text → Text → List Text → (Data → Data → Type 0) → Type 0
 ReachedInText old new tokens R = (d d2 : Data) × (read old ≡ Some d) × (read new ≡ Some d2) × Reached R d d2 tokens
 
--- `ReplacesScalar e d d2`: `d` is a scalar, and `d2` is `e`
-abbrev pub ReplacesScalar : Data → Data → Data → Type 0
-ReplacesScalar e d d2 = IsScalar d × (d2 ≡ e)
-
--- `AddsMemberAt x e d d2`: `d2` is the object `d` with the member `e` under the key `x`, which `d` lacks
-abbrev pub AddsMemberAt : Text → Data → Data → Data → Type 0
-AddsMemberAt x e d d2 = AddsChosenMember (x, None) e d d2
-
--- `AppendsAt x e d d2`: `d2` is the array `d` with the element `e` after its last, to which the token `x` refers
-abbrev pub AppendsAt : Text → Data → Data → Data → Type 0
-AppendsAt x e d d2 = (ds ds2 : Items) × (d ≡ array ds) × (d2 ≡ array ds2) × InsertsItem (items_count ds) e ds ds2
-    × ((x ≡ codes "-") ⊎ (x ≡ dec (items_count ds)))
-
 -- `ReplacesCut middle piece d d2`: `d` is the value of the text `middle`, and `d2` that of the text `piece`
 abbrev pub ReplacesCut : Text → Text → Data → Data → Type 0
 ReplacesCut middle piece d d2 = (read middle ≡ Some d) × (read piece ≡ Some d2)
+
+-- `IsValueEdit middle flat made`: the edit replaces the text `middle`, without white space around it, by the text `flat`, whose
+-- tokens the piece has, without white space around them
+pub record IsValueEdit (middle flat : Text) (made : ValueEdit) : Type 0 where
+  pub before : String Global
+  pub after : String Global
+  pub edit : made.edit ≡ Replace before after
+  pub old : string_bytes before ≡ middle
+  pub new : string_bytes after ≡ flat
+  pub trimmed : IsTrimmed middle
+  pub reads : (e : Data) × (read flat ≡ Some e) × IsValueText e (string_bytes made.piece)
+  pub holds : HoldsTokens flat (string_bytes made.piece)
 
 -- `Becomes piece d d2`: `d2` is the value of the text `piece`
 abbrev pub Becomes : Text → Data → Data → Type 0
@@ -74,7 +78,7 @@ pub record ElementAppended (x piece : Text) (d d2 : Data) : Type 0 where
 
 -- `IsExpanded tokens v t`: the text `t` is that of `v`, expanded by `tokens`
 abbrev pub IsExpanded : List Text → NodeMap → ValueText → Type 0
-IsExpanded tokens v t = (e : Data) × (read (string_bytes t.flat) ≡ Some e) × (nodes e ≡ grown tokens v)
+IsExpanded tokens v t = (e : Data) × (read (string_bytes t.flat) ≡ Some e) × (nodes e ≡ expanded tokens v)
 
 -- ---- which bytes change, by the text of the value that an edit brings. What is put into the text holds the tokens of that
 -- text, and so does the new text

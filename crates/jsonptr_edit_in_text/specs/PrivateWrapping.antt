@@ -2,7 +2,7 @@
 use Rattle.std.specs.Prelude.{List, [], ◌∷◌, ◌++◌, if◌then◌else◌}
 use Rattle.json.specs.Token.{Token}
 use Rattle.jsonptr.specs.Text.{Text}
-use Rattle.jsonptr.specs.Growing.{is_append_index}
+use Rattle.jsonptr.specs.Expansion.{is_append_index}
 
 -- `wrapped xs ts` are the tokens `ts`, expanded by the tokens `xs` of a pointer
 abbrev pub wrapped : List Text → List Token → List Token

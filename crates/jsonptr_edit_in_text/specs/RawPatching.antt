@@ -18,7 +18,7 @@ operations_in rs = map (λ r. r.operation) rs
 
 -- `HoldsText text piece`: if there is a text, a part of `piece` has its tokens, one for one
 abbrev pub HoldsText : Option RawValue → Text → Type 0
-HoldsText text piece = IfSome text (λ raw. HoldsTokens (string_bytes raw.text.flat) piece)
+HoldsText text piece = IfSome text (λ raw. HoldsTokens (string_bytes raw.printed.flat) piece)
 
 -- `AddsGiven old tokens e text new`: the value `e` is added, and what is put into the text `old` holds the text of the value,
 -- if there is one
@@ -42,11 +42,11 @@ GivenBytes old (Test path value) text new = new ≡ old
 -- `RawPatchBytes old rs new`: which bytes the operations `rs` change, each in the text that the one before left
 abbrev pub RawPatchBytes : Text → List RawOperation → Text → Type 0
 RawPatchBytes old [] new = new ≡ old
-RawPatchBytes old (r ∷ rs) new = (mid : Text) × GivenBytes old r.operation r.text mid × RawPatchBytes mid rs new
+RawPatchBytes old (r ∷ rs) new = (mid : Text) × GivenBytes old r.operation r.raw mid × RawPatchBytes mid rs new
 
 -- `IsGivenIn text r`: if the operation of `r` puts a value into the document, a text comes with it. It has the tokens of a
 -- part of `text`, one for one
 abbrev pub IsGivenIn : Text → RawOperation → Type 0
 IsGivenIn text r =
     IsTrue (brings_value r.operation)
-    → (raw : RawValue) × (r.text ≡ Some raw) × HoldsTokens (string_bytes raw.text.flat) text
+    → (raw : RawValue) × (r.raw ≡ Some raw) × HoldsTokens (string_bytes raw.printed.flat) text

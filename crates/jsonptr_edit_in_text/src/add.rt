@@ -8,16 +8,13 @@ ghost use Rattle.jsonptr_edit_in_text.specs.PrivateReaching.{AddsByText};
 use crate::edit::edit_by;
 use crate::insert::{add_member, append, insert};
 use crate::place::Site;
-use crate::replace::replace_at;
+use crate::replace::{replace_at, value_edit};
 use jsonptr::{Pointer, Token};
 use jsonptr_in_text::selectors::selectors_of;
 use jsonptr_json_edits::buffers::Buffers;
-use jsonptr_json_edits::child::is_value_of;
 use jsonptr_json_edits::cut::cut_at;
-use jsonptr_json_edits::edit::{Edit, EditAt};
-use jsonptr_json_edits::layout::replacement;
+use jsonptr_json_edits::edit::EditAt;
 use jsonptr_json_edits::locate::place_of;
-use jsonptr_json_edits::spacing::is_trimmed;
 use jsonptr_json_edits::value_text::ValueText;
 use jsonptr_json_search::selector::Selector;
 use jsonptr_walk::put::key_of;
@@ -98,25 +95,16 @@ fn replace_member(
     let Some(cut) = cut_at(site.text, span.from, span.to) else {
         return Ok(None);
     };
-    if !is_trimmed(cut.middle) {
+    let Some(made) = value_edit(alloc, buffers, &cut, site, printed)? else {
         return Ok(None);
-    }
-    let edit = Edit::Replace {
-        old: String::from_str(alloc, cut.middle)?,
-        new: printed.flat.clone()?,
     };
-    let made = replacement(alloc, site.text, site.place, printed)?;
-    let piece = made.as_str();
-    if !is_value_of(buffers, piece, printed.flat.as_str())? {
-        return Ok(None);
-    }
     let selectors = member_selectors(alloc, site.pointer, token)?;
     let at = EditAt {
         selectors: &selectors,
         positions: &site.place.positions,
-        edit: &edit,
+        edit: &made.edit,
     };
-    edit_by(alloc, buffers, &cut, at, piece)
+    edit_by(alloc, buffers, &cut, at, made.piece.as_str())
 }
 
 /// Adds the value as a new child of the array or object at the site.

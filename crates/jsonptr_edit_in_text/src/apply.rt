@@ -27,7 +27,8 @@ use std::alloc::{AllocError, Global};
 /// [`assign_in_text`](crate::assign_in_text) does, with an element before the one at its index,
 /// `remove` as [`delete_in_text`](crate::delete_in_text) does, and `replace` the bytes of one value.
 /// A `move` cuts its value out and then adds it. A value that is moved or copied keeps the form of
-/// its numbers and strings, and the order of its members. A `test` changes no byte, and compares numbers by their values.
+/// its numbers and strings, and the order of its members. A `test` changes no byte, and compares
+/// numbers by their values.
 ///
 /// Each new text is read side by side with the one before it. If that fails, the document is read,
 /// changed and printed, and the result is [`Edited::Rewritten`].
@@ -94,8 +95,8 @@ pub fn apply_in_text_with(
     ensures bytes { IfOk result (KeepsBytes (PatchBytes text.now operations.items)) }
     ensures refused { IfErr result (IsPatchError text.now operations.items) }
 {
-    let raws = printed_operations(alloc, operations)?;
-    apply_raw_in_text_with(alloc, buffers, text, raws)
+    let raw_operations = printed_operations(alloc, operations)?;
+    apply_raw_in_text_with(alloc, buffers, text, raw_operations)
 }
 
 /// Applies the operations of a patch in order to the document that the text contains, as
@@ -146,13 +147,13 @@ pub fn apply_raw_in_text_with(
 fn apply_plain(
     alloc: Global,
     text: &str,
-    raws: Vec<RawOperation>,
+    raw_operations: Vec<RawOperation>,
 ) -> Result<String, EditError<PatchError>>
     ensures applied { IfOk result
-        (λ s. PatchesInText text.now (operations_in raws.items) (string_bytes s)) }
-    ensures refused { IfErr result (IsPatchError text.now (operations_in raws.items)) }
+        (λ s. PatchesInText text.now (operations_in raw_operations.items) (string_bytes s)) }
+    ensures refused { IfErr result (IsPatchError text.now (operations_in raw_operations.items)) }
 {
-    let operations = plain(alloc, raws)?;
+    let operations = plain(alloc, raw_operations)?;
     apply_and_print(alloc, text, operations)
 }
 

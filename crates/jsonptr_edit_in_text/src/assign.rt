@@ -3,7 +3,7 @@ ghost use Rattle.std.specs.Prelude.{◌≡◌, ◌∷◌, ◌++◌, List, ℕ, I
 ghost use Rattle.serde_json.specs.View.{view};
 ghost use Rattle.jsonptr.specs.Pointer.{tokens};
 ghost use Rattle.jsonptr.specs.Json.{nodes};
-ghost use Rattle.jsonptr_edit_in_text.specs.Bytes.{KeepsBytes, AssignsBytes, ReplacesBytes, ExpandsBytes, GrowsBytes};
+ghost use Rattle.jsonptr_edit_in_text.specs.Bytes.{KeepsBytes, AssignsBytes, ReplacesBytes, ExpandsBytes, AddsExpandedBytes};
 ghost use Rattle.jsonptr_edit_in_text.specs.Carrying.{value_of_raw, Carries};
 ghost use Rattle.jsonptr_edit_in_text.specs.EditInText.{edited_text, AssignsInText, IsAssignError};
 
@@ -143,7 +143,7 @@ pub fn assign_raw_in_text_with(
         (nodes (value_of_raw raw.now)) (edited_text e)) }
     ensures bytes { IfOk result
         (KeepsBytes (AssignsBytes text.now (tokens pointer.entry) (value_of_raw raw.now))) }
-    ensures carries { IfOk result (KeepsBytes (Carries (string_bytes raw.now.text.flat))) }
+    ensures carries { IfOk result (KeepsBytes (Carries (string_bytes raw.now.printed.flat))) }
     ensures refused { IfErr result (IsAssignError text.now (tokens pointer.entry)
         (value_of_raw raw.now)) }
 {
@@ -170,7 +170,7 @@ fn try_assign(
     ensures assigned { IfOk result (λ new. IfSome new (λ s.
         AssignsInText text.now (tokens pointer.entry) (nodes (value_of_raw raw.now)) (string_bytes s))) }
     ensures carries { IfOk result (λ new. IfSome new (λ s.
-        Carries (string_bytes raw.now.text.flat) (string_bytes s))) }
+        Carries (string_bytes raw.now.printed.flat) (string_bytes s))) }
     ensures bytes { IfOk result (λ new. IfSome new (λ s.
         AssignsBytes text.now (tokens pointer.entry) (value_of_raw raw.now) (string_bytes s))) }
 {
@@ -201,7 +201,7 @@ fn assign_from(
     ensures assigned { IfOk result (λ new. IfSome new (λ s. AssignsInText site.now.text.now
         (tokens site.now.pointer ++ tokens rest.entry) (nodes (value_of_raw raw.now)) (string_bytes s))) }
     ensures carries { IfOk result (λ new. IfSome new (λ s.
-        Carries (string_bytes raw.now.text.flat) (string_bytes s))) }
+        Carries (string_bytes raw.now.printed.flat) (string_bytes s))) }
     ensures bytes { IfOk result (λ new. IfSome new (λ s. AssignsBytes site.now.text.now
         (tokens site.now.pointer ++ tokens rest.entry) (value_of_raw raw.now) (string_bytes s))) }
 {
@@ -230,11 +230,11 @@ fn assign_there(
     ensures assigned { IfOk result (λ new. IfSome new (λ s. AssignsInText site.now.text.now
         (tokens site.now.pointer) (nodes (value_of_raw raw.now)) (string_bytes s))) }
     ensures carries { IfOk result (λ new. IfSome new (λ s.
-        Carries (string_bytes raw.now.text.flat) (string_bytes s))) }
+        Carries (string_bytes raw.now.printed.flat) (string_bytes s))) }
     ensures bytes { IfOk result (λ new. IfSome new (λ s. ReplacesBytes site.now.text.now
         (string_bytes s) (tokens site.now.pointer) (value_of_raw raw.now))) }
 {
-    replace(alloc, buffers, site, &raw.text)
+    replace(alloc, buffers, site, &raw.printed)
 }
 
 /// The tokens of a pointer that name nothing.
@@ -259,8 +259,8 @@ fn assign_child(
         (tokens site.now.pointer ++ missing.now.token.now ∷ tokens missing.now.after)
         (nodes (value_of_raw raw.now)) (string_bytes s))) }
     ensures carries { IfOk result (λ new. IfSome new (λ s.
-        Carries (string_bytes raw.now.text.flat) (string_bytes s))) }
-    ensures bytes { IfOk result (λ new. IfSome new (λ s. GrowsBytes site.now.text.now
+        Carries (string_bytes raw.now.printed.flat) (string_bytes s))) }
+    ensures bytes { IfOk result (λ new. IfSome new (λ s. AddsExpandedBytes site.now.text.now
         (string_bytes s) (tokens site.now.pointer) missing.now.token.now
         (tokens missing.now.after) (value_of_raw raw.now))) }
 {
@@ -286,7 +286,7 @@ fn assign_scalar(
         → IfOk result (λ new. IfSome new (λ s. AssignsInText site.now.text.now
         (tokens site.now.pointer ++ x ∷ after) (nodes (value_of_raw raw.now)) (string_bytes s))) }
     ensures carries { IfOk result (λ new. IfSome new (λ s.
-        Carries (string_bytes raw.now.text.flat) (string_bytes s))) }
+        Carries (string_bytes raw.now.printed.flat) (string_bytes s))) }
     ensures bytes { IfOk result (λ new. IfSome new (λ s. ExpandsBytes site.now.text.now
         (string_bytes s) (tokens site.now.pointer) (tokens rest.entry) (value_of_raw raw.now))) }
 {

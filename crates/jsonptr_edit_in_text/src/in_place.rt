@@ -98,7 +98,7 @@ pub fn assign_raw_in_place(
         (nodes (value_of_raw raw.now)) (string_bytes s)) }
     ensures bytes { IfOk result (λ s.
         AssignsBytes text.now (tokens pointer.entry) (value_of_raw raw.now) (string_bytes s)) }
-    ensures carries { IfOk result (λ s. Carries (string_bytes raw.now.text.flat) (string_bytes s)) }
+    ensures carries { IfOk result (λ s. Carries (string_bytes raw.now.printed.flat) (string_bytes s)) }
     ensures one_line { IfOk result (λ s. StaysOneLine text.now (string_bytes s)) }
     ensures refused { IfErr result (IsInPlaceError
         (AssignsInText text.now (tokens pointer.entry) (nodes (value_of_raw raw.now)))

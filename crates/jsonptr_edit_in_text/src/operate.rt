@@ -37,10 +37,10 @@ pub fn operate(
     ensures applied { IfOk result (λ new. IfSome new
         (λ s. OperatesInText (string_bytes text) operation.now.operation (string_bytes s))) }
     ensures bytes { IfOk result (λ new. IfSome new
-        (λ s. GivenBytes (string_bytes text) operation.now.operation operation.now.text (string_bytes s))) }
+        (λ s. GivenBytes (string_bytes text) operation.now.operation operation.now.raw (string_bytes s))) }
 {
     let old = text.as_str();
-    let raw = &operation.text;
+    let raw = &operation.raw;
     match &operation.operation {
         Operation::Add { path, value } => {
             let given = Given { value, raw };
@@ -99,7 +99,7 @@ fn add_given(
         (tokens pointer.entry) (view given.entry.value.now) given.entry.raw.now (string_bytes s))) }
 {
     match given.raw {
-        Some(raw) => add_at(alloc, buffers, text, pointer, &raw.text),
+        Some(raw) => add_at(alloc, buffers, text, pointer, &raw.printed),
         None => {
             let Some(printed) = value_text(alloc, given.value)? else {
                 return Ok(None);
@@ -124,7 +124,7 @@ fn replace_given(
         (tokens pointer.entry) (view given.entry.value.now) given.entry.raw.now (string_bytes s))) }
 {
     match given.raw {
-        Some(raw) => replace_at(alloc, buffers, text, pointer, &raw.text),
+        Some(raw) => replace_at(alloc, buffers, text, pointer, &raw.printed),
         None => {
             let Some(printed) = value_text(alloc, given.value)? else {
                 return Ok(None);
@@ -191,7 +191,7 @@ fn passes(
         → PassesInText text.now (tokens pointer.entry) (nodes (view value.now))) }
 {
     match resolve_in_text_with(alloc, &mut buffers.old, text, pointer) {
-        Ok(found) => Ok(is_equal(Comparison::Numeric, &found, value)),
+        Ok(found) => Ok(is_equal(&found, value, Comparison::Numeric)),
         Err(InTextError::Memory(error)) => Err(error),
         Err(InTextError::NotJson) => Ok(false),
         Err(InTextError::Resolve(_error)) => Ok(false),

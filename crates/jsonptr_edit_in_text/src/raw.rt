@@ -36,13 +36,13 @@ impl RawValue {
     ///
     /// ```rust
     /// let price = RawValue::parse(alloc, "{\"price\": 1.10, \"currency\": \"EUR\"}")?;
-    /// assert_eq!(rt; price.text.flat.as_str(), "{\"price\":1.10,\"currency\":\"EUR\"}");
+    /// assert_eq!(rt; price.printed.flat.as_str(), "{\"price\":1.10,\"currency\":\"EUR\"}");
     /// let name = RawValue::parse(alloc, "\"caf\\u00e9\"")?;
-    /// assert_eq!(rt; name.text.flat.as_str(), "\"caf\\u00e9\"");
+    /// assert_eq!(rt; name.printed.flat.as_str(), "\"caf\\u00e9\"");
     /// ```
     pub fn parse(alloc: Global, text: &str) -> Result<RawValue, ReadError>
         ensures value { IfOk result (λ r. read text.now ≡ Some (value_of_raw r)) }
-        ensures same { IfOk result (λ r. lexed (string_bytes r.text.flat) ≡ lexed text.now) }
+        ensures same { IfOk result (λ r. lexed (string_bytes r.printed.flat) ≡ lexed text.now) }
         ensures refused { IfErr result (IsReadError text.now) }
     {
         let mut scratch = Scratch::new(alloc);
@@ -50,7 +50,7 @@ impl RawValue {
         let lines = format_text(alloc, &mut scratch, text, Format::Pretty)?;
         let formatted = ValueText { flat, lines };
         let own = as_written(alloc, formatted, text)?;
-        Ok(RawValue { text: own })
+        Ok(RawValue { printed: own })
     }
 
     /// Returns the value.
@@ -68,7 +68,7 @@ impl RawValue {
     pub fn to_value(&self, alloc: Global) -> Result<Value, AllocError>
         ensures { IfOk result (λ v. view v ≡ value_of_raw self.now) }
     {
-        match Value::from_str(alloc, self.text.flat.as_str()) {
+        match Value::from_str(alloc, self.printed.flat.as_str()) {
             Ok(value) => Ok(value),
             // The text is JSON, so an allocation failed.
             Err(_error) => Err(AllocError),
@@ -86,7 +86,7 @@ impl RawValue {
     /// ```rust
     /// let name = Value::String(String::from_str(alloc, "Ada \"L\"")?);
     /// let raw = RawValue::from_value(alloc, &name)?;
-    /// assert!(rt; raw.is_some_and(|raw| raw.text.flat.as_str() == "\"Ada \\\"L\\\"\""));
+    /// assert!(rt; raw.is_some_and(|raw| raw.printed.flat.as_str() == "\"Ada \\\"L\\\"\""));
     /// ```
     pub fn from_value(alloc: Global, value: &Value) -> Result<Option<RawValue>, AllocError>
         ensures { IfOk result (λ o. MatchOption o (max_depth < depth (view value.now))
@@ -104,8 +104,8 @@ impl RawValue {
         requires { depth (view value.now) ≤ max_depth }
         ensures { IfOk result (λ r. value_of_raw r ≡ view value.now) }
     {
-        let text = text_of_value(alloc, value)?;
-        Ok(RawValue { text })
+        let printed = text_of_value(alloc, value)?;
+        Ok(RawValue { printed })
     }
 }
 
@@ -124,15 +124,15 @@ pub fn expanded_text(
     ensures value { IfOk result (λ text. IfSome text
         (IsExpanded (tokens pointer.entry) (nodes (value_of_raw raw.now)))) }
     ensures same { IfOk result (λ text. IfSome text (λ t. lexed (string_bytes t.flat)
-        ≡ wrapped (tokens pointer.entry) (lexed (string_bytes raw.now.text.flat)))) }
+        ≡ wrapped (tokens pointer.entry) (lexed (string_bytes raw.now.printed.flat)))) }
 {
     if pointer.count() > MAX_DEPTH {
         return Ok(None);
     }
-    let Some(flat) = expanded(alloc, scratch, pointer, raw.text.flat.as_str())? else {
+    let Some(flat) = expanded(alloc, scratch, raw.printed.flat.as_str(), pointer)? else {
         return Ok(None);
     };
-    lay_out(alloc, scratch, flat, raw.text.flat.as_str())
+    lay_out(alloc, scratch, flat, raw.printed.flat.as_str())
 }
 
 /// Returns the text in both layouts, its last strings as they are written. Returns `None` if it is not

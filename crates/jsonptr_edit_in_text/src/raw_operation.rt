@@ -14,6 +14,6 @@ pub struct RawOperation {
     /// The operation.
     pub operation: Operation,
     /// The text of the value of an `add` or of a `replace`. It is read as exactly that value.
-    pub text: Option<RawValue>,
-    pub ghost fits: { HasFittingText operation text } by { Fits-prop operation text },
+    pub raw: Option<RawValue>,
+    pub ghost fits: { HasFittingText operation raw } by { Fits-prop operation raw },
 }

@@ -51,23 +51,23 @@ pub fn raw_operations(
     operations: Vec<Operation>,
 ) -> Result<Option<Vec<RawOperation>>, AllocError>
     ensures same { IfOk result (λ found. IfSome found
-        (λ raws. operations_in raws.items ≡ operations.items)) }
+        (λ raw_operations. operations_in raw_operations.items ≡ operations.items)) }
     ensures texts { IfOk result (λ found. IfSome found
-        (λ raws. All (IsGivenIn text.now) raws.items)) }
+        (λ raw_operations. All (IsGivenIn text.now) raw_operations.items)) }
 {
     let elements = elements_of(alloc, buffers, text)?;
     let selectors = value_selectors(alloc)?;
-    let mut raws = Vec::new(alloc);
+    let mut raw_operations = Vec::new(alloc);
     let mut index = 0usize;
     for operation in operations {
         let raw = own_text(alloc, buffers, text, child_at(&elements, index), &selectors)?;
         let Some(operation) = with_own(alloc, operation, raw)? else {
             return Ok(None);
         };
-        append(&mut raws, operation)?;
+        append(&mut raw_operations, operation)?;
         index = index.saturating_add(1);
     }
-    Ok(Some(raws))
+    Ok(Some(raw_operations))
 }
 
 /// Returns the operation with the text that was found for it, or `None` if it needs one and there is
@@ -79,7 +79,7 @@ fn with_own(
 ) -> Result<Option<RawOperation>, AllocError>
     ensures operation { IfOk result (λ o. IfSome o (λ made. made.operation ≡ operation)) }
     ensures text { IfOk result (λ o. IfSome o (λ made. IsTrue (brings_value operation)
-        → (given : RawValue) × (raw ≡ Some given) × (made.text ≡ Some given))) }
+        → (given : RawValue) × (raw ≡ Some given) × (made.raw ≡ Some given))) }
 {
     match raw {
         Some(raw) => RawOperation::with_text(alloc, operation, raw),
@@ -151,7 +151,7 @@ fn own_text(
     object: Span,
     selectors: &[Selector],
 ) -> Result<Option<RawValue>, AllocError>
-    ensures { IfOk result (λ found. IfSome found (λ raw. HoldsTokens (string_bytes raw.text.flat) text.now)) }
+    ensures { IfOk result (λ found. IfSome found (λ raw. HoldsTokens (string_bytes raw.printed.flat) text.now)) }
 {
     let text_there = slice(text, object.from, object.to);
     let Some(place) = place_of(alloc, buffers, text_there, selectors)? else {
@@ -181,20 +181,20 @@ fn own_text(
 ///
 /// ```rust
 /// let remove = Operation::Remove { path: PointerBuf::from_text(alloc, "/a")? };
-/// let raws = printed_operations(alloc, vec![in alloc; remove]?)?;
-/// assert!(rt; raws.len() == 1 && raws[0].text.is_none());
+/// let operations = printed_operations(alloc, vec![in alloc; remove]?)?;
+/// assert!(rt; operations.len() == 1 && operations[0].raw.is_none());
 /// ```
 pub fn printed_operations(
     alloc: Global,
     operations: Vec<Operation>,
 ) -> Result<Vec<RawOperation>, AllocError>
-    ensures { IfOk result (λ raws. operations_in raws.items ≡ operations.items) }
+    ensures { IfOk result (λ raw_operations. operations_in raw_operations.items ≡ operations.items) }
 {
-    let mut raws = Vec::new(alloc);
+    let mut raw_operations = Vec::new(alloc);
     for operation in operations {
-        append(&mut raws, RawOperation::new(operation))?;
+        append(&mut raw_operations, RawOperation::new(operation))?;
     }
-    Ok(raws)
+    Ok(raw_operations)
 }
 
 /// Returns the operations alone.
@@ -202,21 +202,21 @@ pub fn printed_operations(
 /// # Errors
 ///
 /// [`AllocError`] if an allocation fails.
-pub fn plain(alloc: Global, raws: Vec<RawOperation>) -> Result<Vec<Operation>, AllocError>
-    ensures { IfOk result (λ operations. operations.items ≡ operations_in raws.items) }
+pub fn plain(alloc: Global, raw_operations: Vec<RawOperation>) -> Result<Vec<Operation>, AllocError>
+    ensures { IfOk result (λ operations. operations.items ≡ operations_in raw_operations.items) }
 {
     let mut operations = Vec::new(alloc);
-    for operation in raws {
+    for operation in raw_operations {
         operations.push(operation.operation)?;
     }
     Ok(operations)
 }
 
 /// Appends an operation. A function of its own, so that the proof of the loop can name it.
-fn append(raws: &mut Vec<RawOperation>, operation: RawOperation) -> Result<(), AllocError>
-    ensures { IfOk result (λ _. raws.new.items ≡ raws.old.items ++ operation ∷ []) }
+fn append(operations: &mut Vec<RawOperation>, operation: RawOperation) -> Result<(), AllocError>
+    ensures { IfOk result (λ _. operations.new.items ≡ operations.old.items ++ operation ∷ []) }
 {
-    raws.push(operation)?;
+    operations.push(operation)?;
     Ok(())
 }
 
@@ -227,14 +227,14 @@ impl RawOperation {
     ///
     /// ```rust
     /// let remove = Operation::Remove { path: PointerBuf::from_text(alloc, "/a")? };
-    /// assert!(rt; RawOperation::new(remove).text.is_none());
+    /// assert!(rt; RawOperation::new(remove).raw.is_none());
     /// ```
     pub fn new(operation: Operation) -> RawOperation
         ensures operation { result.operation ≡ operation }
-        ensures text { result.text ≡ None }
+        ensures text { result.raw ≡ None }
     {
-        let text = None;
-        RawOperation { operation, text }
+        let raw = None;
+        RawOperation { operation, raw }
     }
 
     /// Returns the operation with the text of its value, or `None` if the text is not read as exactly
@@ -258,13 +258,13 @@ impl RawOperation {
         raw: RawValue,
     ) -> Result<Option<RawOperation>, AllocError>
         ensures operation { IfOk result (λ o. IfSome o (λ made. made.operation ≡ operation)) }
-        ensures text { IfOk result (λ o. IfSome o (λ made. made.text ≡ Some raw)) }
+        ensures text { IfOk result (λ o. IfSome o (λ made. made.raw ≡ Some raw)) }
     {
         if !fits(alloc, &operation, &raw)? {
             return Ok(None);
         }
-        let text = Some(raw);
-        Ok(Some(RawOperation { operation, text }))
+        let raw = Some(raw);
+        Ok(Some(RawOperation { operation, raw }))
     }
 }
 
@@ -288,11 +288,11 @@ fn is_text_of(alloc: Global, raw: &RawValue, value: &Value) -> Result<bool, Allo
     ensures { IfOk result (λ b. IsTrue b → value_of_raw raw.now ≡ view value.now) }
 {
     let again = raw.to_value(alloc)?;
-    let Some(printed) = RawValue::from_value(alloc, value)? else {
+    let Some(one) = RawValue::from_value(alloc, value)? else {
         return Ok(false);
     };
     let Some(other) = RawValue::from_value(alloc, &again)? else {
         return Ok(false);
     };
-    Ok(is_text(printed.text.flat.as_str(), other.text.flat.as_str()))
+    Ok(is_text(one.printed.flat.as_str(), other.printed.flat.as_str()))
 }

@@ -12,6 +12,6 @@ use jsonptr_json_edits::value_text::ValueText;
 #[derive(Debug, Drop)]
 pub struct RawValue {
     /// The text, on one line and over lines.
-    pub text: ValueText,
-    ghost is_json: { is_some (read (string_bytes text.flat)) ≡ true },
+    pub printed: ValueText,
+    ghost is_json: { is_some (read (string_bytes printed.flat)) ≡ true },
 }

@@ -5,7 +5,7 @@ ghost use Rattle.serde_json.specs.Read.{read};
 ghost use Rattle.serde_json.specs.View.{view};
 ghost use Rattle.jsonptr.specs.Pointer.{tokens};
 ghost use Rattle.jsonptr_edit_in_text.specs.Bytes.{IsScalar};
-ghost use Rattle.jsonptr_edit_in_text.specs.PrivateReaching.{ReachedInText, ReplacesCut, Becomes, ScalarBecomes, ReplacesByText, ReplacesScalarByText};
+ghost use Rattle.jsonptr_edit_in_text.specs.PrivateReaching.{ReachedInText, ReplacesCut, IsValueEdit, Becomes, ScalarBecomes, ReplacesByText, ReplacesScalarByText};
 
 use crate::edit::{EditAtPointer, edit_at};
 use crate::place::Site;
@@ -101,6 +101,45 @@ pub fn replace_scalar(
     replace_cut(alloc, buffers, &cut, site, printed)
 }
 
+/// An edit that replaces a value, and what it puts into the text.
+#[derive(Debug, Drop)]
+pub struct ValueEdit {
+    /// The edit.
+    pub edit: Edit,
+    /// The text of the new value, laid out as the document is.
+    pub piece: String,
+}
+
+/// Returns the edit that replaces the value at the site, which was cut out. Returns `None` if there is
+/// white space around the value, or if the new text is not of the printed value.
+///
+/// # Errors
+///
+/// [`AllocError`] if an allocation fails.
+pub fn value_edit(
+    alloc: Global,
+    buffers: &mut Buffers,
+    cut: &Cut<'_>,
+    site: &Site<'_>,
+    printed: &ValueText,
+) -> Result<Option<ValueEdit>, AllocError>
+    ensures { IfOk result (λ made. IfSome made
+        (IsValueEdit cut.now.middle.now (string_bytes printed.now.flat))) }
+{
+    if !is_trimmed(cut.middle) {
+        return Ok(None);
+    }
+    let edit = Edit::Replace {
+        old: String::from_str(alloc, cut.middle)?,
+        new: printed.flat.clone()?,
+    };
+    let piece = replacement(alloc, cut.text, site.place, printed)?;
+    if !is_value_of(buffers, piece.as_str(), printed.flat.as_str())? {
+        return Ok(None);
+    }
+    Ok(Some(ValueEdit { edit, piece }))
+}
+
 /// Replaces the value at the site, which was cut out.
 fn replace_cut(
     alloc: Global,
@@ -118,24 +157,15 @@ fn replace_cut(
         (λ new. IfSome new (λ s. ReplacesScalarByText cut.now.text.now
         (string_bytes s) (tokens site.now.pointer) (string_bytes printed.now.flat))) }
 {
-    if !is_trimmed(cut.middle) {
+    let Some(made) = value_edit(alloc, buffers, cut, site, printed)? else {
         return Ok(None);
-    }
-    let edit = Edit::Replace {
-        old: String::from_str(alloc, cut.middle)?,
-        new: printed.flat.clone()?,
     };
-    let made = replacement(alloc, cut.text, site.place, printed)?;
-    let piece = made.as_str();
-    if !is_value_of(buffers, piece, printed.flat.as_str())? {
-        return Ok(None);
-    }
     let at = EditAtPointer {
         pointer: site.pointer,
         positions: &site.place.positions,
-        edit: &edit,
+        edit: &made.edit,
     };
-    edit_at(alloc, buffers, cut, &at, piece)
+    edit_at(alloc, buffers, cut, &at, made.piece.as_str())
 }
 
 /// Returns whether the text is that of a scalar.

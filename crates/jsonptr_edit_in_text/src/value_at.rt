@@ -31,14 +31,14 @@ pub fn value_at(
     let Some(place) = place_at(alloc, buffers, text, &selectors)? else {
         return Ok(None);
     };
-    let value = text_at(alloc, text, place.value)?;
+    let printed = text_at(alloc, text, place.value)?;
     let target = Route {
         selectors: &selectors,
         positions: &place.positions,
-        value: value.flat.as_str(),
+        value: printed.flat.as_str(),
     };
     if leads_to(buffers, text, target)? {
-        Ok(Some(value))
+        Ok(Some(printed))
     } else {
         Ok(None)
     }

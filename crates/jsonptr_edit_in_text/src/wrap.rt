@@ -4,7 +4,7 @@ ghost use Rattle.json.specs.Lex.{tokens as lexed};
 ghost use Rattle.json.specs.Token.{begin_object, end_object, begin_array, end_array, key as a_key};
 ghost use Rattle.jsonptr.specs.Pointer.{tokens};
 ghost use Rattle.jsonptr_edit_in_text.specs.PrivateWrapping.{wrapped};
-ghost use Rattle.jsonptr.specs.Growing.{is_append_index};
+ghost use Rattle.jsonptr.specs.Expansion.{is_append_index};
 
 use json::{Reader, Scratch, Token as JsonToken, Writer};
 use jsonptr::{Pointer, Token};
@@ -21,8 +21,8 @@ use std::alloc::{AllocError, Global};
 pub fn expanded(
     alloc: Global,
     scratch: &mut Scratch,
-    pointer: Pointer<'_>,
     text: &str,
+    pointer: Pointer<'_>,
 ) -> Result<Option<String>, AllocError>
     ensures { IfOk result (λ o. IfSome o
         (λ s. lexed (string_bytes s) ≡ wrapped (tokens pointer.entry) (lexed text.now))) }
@@ -30,7 +30,7 @@ pub fn expanded(
     let mut left = pointer;
     let mut current = String::from_str(alloc, text)?;
     'tokens: while let Some((front, token)) = left.split_back() {
-        let Some(outer) = wrap(alloc, scratch, &token, current.as_str())? else {
+        let Some(outer) = wrap(alloc, scratch, current.as_str(), &token)? else {
             return Ok(None);
         };
         current = outer;
@@ -43,8 +43,8 @@ pub fn expanded(
 fn wrap(
     alloc: Global,
     scratch: &mut Scratch,
-    token: &Token<'_>,
     text: &str,
+    token: &Token<'_>,
 ) -> Result<Option<String>, AllocError>
     ensures { IfOk result (λ o. IfSome o
         (λ s. lexed (string_bytes s) ≡ wrapped (token.now ∷ []) (lexed text.now))) }
@@ -60,6 +60,7 @@ fn wrap(
     if !is_whole {
         return Ok(None);
     }
+    // SAFETY: the writer's bytes are UTF-8, which the prover checks.
     Ok(Some(unsafe { String::from_utf8_unchecked(out.into_inner()) }))
 }
 

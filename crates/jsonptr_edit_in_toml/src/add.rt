@@ -1,7 +1,7 @@
 //! Where a member or an element is put in. These are hints: no contract says that they are right.
 use crate::inline_child::add_child;
 use crate::items::{ItemKind, TomlItem};
-use crate::keys::{key_text, push_keys, push_token};
+use crate::keys::{index_of, key_text, push_keys, push_token};
 use crate::outline::{Outline, Role, indent_of, outline_of};
 use crate::piece::{has_headers, section_text};
 use crate::plan::{AdditionPlan, Keys, TomlChild};
@@ -66,10 +66,7 @@ fn resolved<'v>(document: &'v Value, tokens: &Vec<String>) -> (usize, &'v Value)
 fn child_of<'v>(value: &'v Value, token: &str) -> Option<&'v Value> {
     match value {
         Value::Table(table) => table.get(token),
-        Value::Array(elements) => match token.parse::<usize>() {
-            Ok(index) => elements.get(index),
-            Err(_) => None,
-        },
+        Value::Array(elements) => elements.get(index_of(token)?),
         _ => None,
     }
 }

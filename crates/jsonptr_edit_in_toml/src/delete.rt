@@ -28,8 +28,9 @@ use toml::Value;
 /// [`Delete::delete`](jsonptr::delete::Delete) does. Returns `None` if it resolves to nothing. Deleting
 /// the root leaves an empty document.
 ///
-/// A key goes with its line and the comment on it, a table with its header and its lines, and an
-/// element with its comma. All other bytes stay. If that is not possible, the document is printed anew.
+/// A key goes with its line and the comment on it, and with one above it if no key follows. A table goes
+/// with its header, its lines and the comment above it, and an element with its comma or its line. All
+/// other bytes stay. If that is not possible, the document is printed anew.
 ///
 /// Reads the old and the new text once each, scans the old one once more, and allocates for both
 /// documents.

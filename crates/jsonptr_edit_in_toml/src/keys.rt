@@ -1,6 +1,7 @@
 //! How far keys of a text lead along tokens. These are hints: no contract says that they are right.
 use crate::skip::{after_dot, key_end};
 use crate::span::slice;
+use jsonptr::index::Index;
 use jsonptr::{Pointer, PointerBuf, Token};
 use jsonptr_json_edits::locate::Span;
 use std::alloc::{AllocError, Global};
@@ -76,12 +77,18 @@ fn is_key(alloc: Global, written: &str, token: &str) -> Result<bool, AllocError>
     }
 }
 
+/// Returns the number that the token is as an array index, as [`Index`] reads it: without a sign and
+/// without leading zeros.
+pub fn index_of(token: &str) -> Option<usize> {
+    match token.parse::<Index>() {
+        Ok(Index::Num(index)) => Some(index),
+        _ => None,
+    }
+}
+
 /// Returns whether the token is the index.
 pub fn is_index(token: &str, index: usize) -> bool {
-    match token.parse::<usize>() {
-        Ok(number) => number == index,
-        Err(_) => false,
-    }
+    index_of(token) == Some(index)
 }
 
 /// Returns how far the dotted key leads along the tokens, from the first ones on that lead to it.

@@ -69,8 +69,8 @@ pub fn apply_with_comments(
         (λ old e. IsPatchError old operations.items e) text.now) }
 {
     raw_patch_law();
-    let raws = printed_operations(alloc, operations)?;
-    apply_raw_with_comments(alloc, buffers, text, raws)
+    let raw_operations = printed_operations(alloc, operations)?;
+    apply_raw_with_comments(alloc, buffers, text, raw_operations)
 }
 
 /// Applies the operations of a patch in order, as [`apply_with_comments`] does, each with the text of its

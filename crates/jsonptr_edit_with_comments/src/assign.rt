@@ -110,7 +110,7 @@ pub fn assign_raw_with_comments(
         (λ old new. AssignsInText old (tokens pointer.entry) (nodes (value_of_raw raw.now)) new) text.now (string_bytes s)) }
     ensures bytes { IfOk result (λ s. EditsAs
         (λ old new. AssignsBytes old (tokens pointer.entry) (value_of_raw raw.now) new
-        × Carries (string_bytes raw.now.text.flat) new) text.now (string_bytes s)) }
+        × Carries (string_bytes raw.now.printed.flat) new) text.now (string_bytes s)) }
     ensures pieces { IfOk result (λ s. IsOneEdit text.now (string_bytes s)) }
     ensures refused { IfErr result (IsWithCommentsError
         (λ old new. AssignsInText old (tokens pointer.entry) (nodes (value_of_raw raw.now)) new)

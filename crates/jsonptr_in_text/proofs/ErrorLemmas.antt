@@ -2,7 +2,7 @@
 use Rattle.std.proofs.Common.{◌≡◌, ℕ, ◌+◌, ◌-◌, ◌<◌, ◌≤◌, List, [], ◌∷◌, ◌++◌, length, Ok, Err, refl, sym, ap, ap₂, ◌∙◌, subst, arith, length-append}
 use Rattle.serde_json.specs.Data as json
 use Rattle.serde_json.specs.Data.{Data}
-use Rattle.jsonptr_json_search.specs.Search as skim
+use Rattle.jsonptr_json_search.specs.Search as json_search
 use Rattle.jsonptr_json_search.specs.Search.{kind_of}
 use Rattle.jsonptr_json_search.specs.declared.outcome.Kind.{Kind}
 use Rattle.jsonptr_json_search.specs.declared.outcome.Kind.TheVariants as kind
@@ -58,7 +58,7 @@ array_label (json.boolean b) len h = absurd (cc)
 array_label (json.number n) len h = absurd (cc)
 array_label (json.string s) len h = absurd (cc)
 array_label (json.array ds) len h =
-    let same : len ≡ skim.items_count ds = cc in
+    let same : len ≡ json_search.items_count ds = cc in
     ap an_array (len_same ds ∙ sym same)
 array_label (json.object ms) len h = absurd (cc)
 

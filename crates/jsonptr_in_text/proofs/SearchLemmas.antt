@@ -6,7 +6,7 @@ use Rattle.std.specs.Ordering.{match_ordering}
 use Rattle.serde_json.specs.Data as json
 use Rattle.serde_json.specs.Data.{Data}
 use Rattle.serde_json.specs.Find as find
-use Rattle.jsonptr_json_search.specs.Search as skim
+use Rattle.jsonptr_json_search.specs.Search as json_search
 use Rattle.jsonptr_json_search.specs.Search.{Choice, chosen, follow, kind_of, element, Stops}
 use Rattle.jsonptr_json_search.specs.declared.outcome.Kind.{Kind}
 use Rattle.jsonptr_json_search.specs.declared.outcome.Kind.TheVariants as kind
@@ -37,7 +37,7 @@ item_there json.no_items i low h = omega arith
 item_there (json.item d ds) zero low h = cc
 item_there (json.item d ds) (suc i) low h = item_there ds i (omega arith) h
 
-pub len_same : (ds : json.Items) → items_len (items ds) ≡ skim.items_count ds
+pub len_same : (ds : json.Items) → items_len (items ds) ≡ json_search.items_count ds
 len_same json.no_items = refl
 len_same (json.item d ds) = ap suc (len_same ds)
 
@@ -125,8 +125,8 @@ lacks d (json.number n) path x w k there is none small same = lacks_at_leaf (nod
 lacks d (json.string s) path x w k there is none small same = lacks_at_leaf (nodes d) path x (of_json (json.string s)) (ap (option_map label_of) there)
 lacks d (json.array ds) path x w k there is none small same =
     lacks_at_array (nodes d) path x (items_len (items ds)) (ap (option_map label_of) there) (λ i low e.
-    let few : skim.items_count ds < 2 ^ 64 = small (skim.items_count ds) same in
-    let len : items_len (items ds) ≡ skim.items_count ds = len_same ds in
+    let few : json_search.items_count ds < 2 ^ 64 = small (json_search.items_count ds) same in
+    let len : items_len (items ds) ≡ json_search.items_count ds = len_same ds in
     let here : w.1 ≡ Some i = is.each_index i (omega arith) e in
     item_there ds i low (ap (λ (o : Option ℕ). element o ds) (sym here) ∙ none))
 lacks d (json.object ms) path x w k there is none small same =

@@ -88,6 +88,7 @@ fn compact(alloc: Global, reader: &mut Reader<'_>) -> Result<Option<String>, All
     if !copy(reader, &mut out)? {
         return Ok(None);
     }
+    // SAFETY: the writer's bytes are UTF-8, which the prover checks.
     Ok(Some(unsafe { String::from_utf8_unchecked(out.into_inner()) }))
 }
 
@@ -99,6 +100,7 @@ fn pretty(alloc: Global, reader: &mut Reader<'_>) -> Result<Option<String>, Allo
     if !copy(reader, &mut out)? {
         return Ok(None);
     }
+    // SAFETY: the writer's bytes are UTF-8, which the prover checks.
     Ok(Some(unsafe { String::from_utf8_unchecked(out.into_inner()) }))
 }
 

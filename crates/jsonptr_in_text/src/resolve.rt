@@ -69,7 +69,8 @@ impl From<ReadError> for InTextError {
 /// Returns the value that the pointer resolves to in the document that the text contains.
 ///
 /// The result is that of `Value::from_str` and then [`Pointer::resolve`], in one pass over the
-/// text. Allocates for the pointer's tokens, for the text's strings, unescaped, and for the value.
+/// text. Allocates as much as the text is long, to unescape strings, and for the pointer's tokens and
+/// the value.
 ///
 /// # Errors
 ///

@@ -2,8 +2,10 @@
 use Rattle.std.proofs.Common.{◌≡◌, List, [], ◌∷◌, ◌++◌, length, Option, Some, None, MatchOption, is_some, option_map, Bor, BTreeMap, String, string_bytes, Global, refl, sym, ap, ◌∙◌, subst, append-nil, append_assoc}
 use Rattle.std.specs.BTreeMap.{get_by_text}
 use Rattle.serde_json.specs.Data.{Data}
+use Rattle.serde_json.specs.View.{view}
+use Rattle.serde_json.specs.declared.value.Value.{Value}
 use Rattle.jsonptr.specs.Text.{Text, text}
-use Rattle.jsonptr.specs.Node.{key, Path, Label, an_object, NodeMap, NamesStep, Names}
+use Rattle.jsonptr.specs.Node.{key, Path, Label, an_object, NamesStep, Names}
 use Rattle.jsonptr.specs.Content.{Content, label_of}
 use Rattle.jsonptr.specs.Following.{LacksStep}
 use Rattle.jsonptr.specs.Json.{content, nodes, value_at}
@@ -19,15 +21,20 @@ use Rattle.jsonptr_journal.proofs.LocationLemmas.{steps_of-push}
 
 -- the child under a token's text at an object
 
-module _ {D : Type 0} (n : NodeMap) (stands : Path → D → Type 0) (x : Text) (m : BTreeMap (String Global) D) where
-  pub member_selected : (k : String Global) (e : Bor D) → n [] ≡ Some an_object → ((q : Text) → MatchOption (get_by_text m q) (n (key q ∷ []) ≡ None) (stands (key q ∷ []))) → Some e.now ≡ get_by_text m x → string_bytes k ≡ x → Selects n stands x record { step = step.Key k; node = e }
-  member_selected k e is members read text_is = record {
+module _ (d : Data) (x : Text) (m : BTreeMap (String Global) Value) where
+  abbrev pub Members : Type 0
+  Members = (q : Text) → MatchOption (get_by_text m q) (nodes d (key q ∷ []) ≡ None) (λ v. value_at (key q ∷ []) d ≡ Some (content (view v)))
+
+  pub member_selected : (k : String Global) (v : Bor Value) → nodes d [] ≡ Some an_object → Members → Some v.now ≡ get_by_text m x → string_bytes k ≡ x → Selects d x record { step = step.Key k; node = v }
+  member_selected k v is members read text_is = record {
     named = subst (λ (l : Option Label). NamesStep l x (key (string_bytes k))) (sym is) text_is;
-    there = subst (λ (q : Text). stands (key q ∷ []) e.now) (sym text_is) (subst (λ (o : Option D). MatchOption o (n (key x ∷ []) ≡ None) (stands (key x ∷ []))) (sym read) (members x));
+    there = subst (λ (q : Text). value_at (key q ∷ []) d ≡ Some (content (view v.now))) (sym text_is)
+        (subst (λ (o : Option Value). MatchOption o (nodes d (key x ∷ []) ≡ None) (λ u. value_at (key x ∷ []) d ≡ Some (content (view u)))) (sym read) (members x));
   }
 
-  pub member_lacking : n [] ≡ Some an_object → ((q : Text) → MatchOption (get_by_text m q) (n (key q ∷ []) ≡ None) (stands (key q ∷ []))) → None ≡ get_by_text m x → LacksStep n [] x
-  member_lacking is members read = lacks_at_object n [] x is (subst (λ (o : Option D). MatchOption o (n (key x ∷ []) ≡ None) (stands (key x ∷ []))) (sym read) (members x))
+  pub member_lacking : nodes d [] ≡ Some an_object → Members → None ≡ get_by_text m x → LacksStep (nodes d) [] x
+  member_lacking is members read = lacks_at_object (nodes d) [] x is
+      (subst (λ (o : Option Value). MatchOption o (nodes d (key x ∷ []) ≡ None) (λ u. value_at (key x ∷ []) d ≡ Some (content (view u)))) (sym read) (members x))
 
 -- the tokens before `left` name `steps` in the document d, and e is there
 pub record Reaches (d : Data) (tokens left : List Text) (steps : List LocationStep) (e : Data) : Type 0 where

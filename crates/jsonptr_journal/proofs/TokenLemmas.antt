@@ -17,7 +17,7 @@ use Rattle.jsonptr_walk.proofs.DescendLemmas.{one_front, plain_token, next_of}
 use Rattle.jsonptr_journal.specs.Location.{contents_of}
 use Rattle.jsonptr_journal.specs.Writing.{write_step, write_at}
 use Rattle.jsonptr_journal.specs.Leading.{StopsAtOffset}
-use Rattle.jsonptr_journal.specs.PrivateTokenStep.{IsTokenAt, IsElementIn, MovesTo, MovesBack, IsLost}
+use Rattle.jsonptr_journal.specs.PrivateTokenStep.{IsTokenAt, IsElementIn, MovesByToken, MovesBackByToken, IsLostAtToken}
 use Rattle.jsonptr_journal.specs.Children.{items_in}
 use Rattle.jsonptr_journal.proofs.NodeLemmas.{array_there, object_there, items_in-length}
 use Rattle.jsonptr_journal.proofs.WritingLemmas.{write_more, write_same}
@@ -92,18 +92,18 @@ module _ (tokens : List Text) where
   pub trail_none : (doc : Value) → Trail doc doc (λ y. y) 0
   trail_none doc = record { front = []; left = tokens; path = []; begins = (refl, refl); named = refl; there = refl; made = λ y. refl }
 
-  pub move_fits : (offset : ℕ) (down : Bool) (d : Value) (next : ℕ) (e : Value) → MovesTo tokens offset down d next e → next < 2 ^ 64
+  pub move_fits : (offset : ℕ) (down : Bool) (d : Value) (next : ℕ) (e : Value) → MovesByToken tokens offset down d next e → next < 2 ^ 64
   move_fits offset true d next e m = m.0
   move_fits offset false d next e m = m.0
 
-  pub move_back : (offset : ℕ) (x : Text) (next : ℕ) (s : Step) (d w m : Value) → IsTokenAt tokens offset x next → (HasNoTilde (text tokens) → NamesStep (map_of (contents_of d) []) x s) → (HasNoTilde (text tokens) → contents_of m ≡ write_step s (contents_of w) (contents_of d)) → MovesBack tokens offset true d w m
+  pub move_back : (offset : ℕ) (x : Text) (next : ℕ) (s : Step) (d w m : Value) → IsTokenAt tokens offset x next → (HasNoTilde (text tokens) → NamesStep (map_of (contents_of d) []) x s) → (HasNoTilde (text tokens) → contents_of m ≡ write_step s (contents_of w) (contents_of d)) → MovesBackByToken tokens offset true d w m
   move_back offset x next s d w m t named made plain front y rest u b here =
       let one = one_front t.front front (x ∷ t.rest) (y ∷ rest) (sym t.begins.0 ∙ b.0) (sym t.begins.1 ∙ b.1) in
       let same : x ≡ y = let e : x ∷ t.rest ≡ y ∷ rest = one.1 in cc in
       let step : s ≡ u = NamesStep_one_step (map_of (contents_of d) []) x s u (named plain) (subst (λ (z : Text). NamesStep (map_of (contents_of d) []) z u) (sym same) here) in
       subst (λ (r : Step). contents_of m ≡ write_step r (contents_of w) (contents_of d)) step (made plain)
 
-  pub move_down : (offset : ℕ) (x : Text) (next : ℕ) (s : Step) (d e : Value) → IsTokenAt tokens offset x next → (HasNoTilde (text tokens) → NamesStep (map_of (contents_of d) []) x s) → (HasNoTilde (text tokens) → child s (contents_of d) ≡ Some (contents_of e)) → MovesTo tokens offset true d next e
+  pub move_down : (offset : ℕ) (x : Text) (next : ℕ) (s : Step) (d e : Value) → IsTokenAt tokens offset x next → (HasNoTilde (text tokens) → NamesStep (map_of (contents_of d) []) x s) → (HasNoTilde (text tokens) → child s (contents_of d) ≡ Some (contents_of e)) → MovesByToken tokens offset true d next e
   move_down offset x next s d e t named there = (
     t.fits,
     t.farther,
@@ -124,7 +124,7 @@ module _ (tokens : List Text) where
   plain_at offset x next t plain = plain_text x (plain_token tokens offset t.front x t.rest t.begins plain)
 
   module _ (doc x : Value) (F : Value → Value) (offset : ℕ) (h : Trail doc x F offset) where
-    pub trail_more : (e : Value) (G : Value → Value) (next : ℕ) → HasNoTilde (text tokens) → MovesTo tokens offset true x next e → ((w : Value) → MovesBack tokens offset true x w (G w)) → Trail doc e (λ y. F (G y)) next
+    pub trail_more : (e : Value) (G : Value → Value) (next : ℕ) → HasNoTilde (text tokens) → MovesByToken tokens offset true x next e → ((w : Value) → MovesBackByToken tokens offset true x w (G w)) → Trail doc e (λ y. F (G y)) next
     trail_more e G next plain m back =
         let f = m.3 plain h.front h.left h.begins in
         let s : Step = f.step in
@@ -161,7 +161,7 @@ module _ (tokens : List Text) where
     pub trail_puts : ((front left : List Text) → Begins tokens offset front left → left ≡ []) → (w : Value) (p : Path) → Names (map_of (contents_of doc)) tokens p → contents_of (F w) ≡ write_at p (contents_of w) (contents_of doc)
     trail_puts none w p named = subst (λ (q : Path). contents_of (F w) ≡ write_at q (contents_of w) (contents_of doc)) (Names_one_path (map_of (contents_of doc)) tokens h.path p (trail_named none) named) (h.made w)
 
-    pub trail_lost : HasNoTilde (text tokens) → IsLost tokens offset x → StopsAtOffset (map_of (contents_of doc)) tokens offset
+    pub trail_lost : HasNoTilde (text tokens) → IsLostAtToken tokens offset x → StopsAtOffset (map_of (contents_of doc)) tokens offset
     trail_lost plain lost =
         let r = lost plain in
         let y : Text = r.1 in

@@ -11,7 +11,7 @@ use Rattle.jsonptr_journal.specs.Writing.{At}
 abbrev pub StopsAtOffset : NodeMap → List Text → ℕ → Type 0
 StopsAtOffset n tokens offset = (position : ℕ) × (l : Label) × (x : Text) × StopsBefore n tokens position offset l x
 
--- `AtNamed tokens R c d`: writing at the path of `c` that `tokens` name gives `d`, and `R` relates what was there to
+-- `AtNamed tokens R c d`: writing at the path that `tokens` name turns `c` into `d`, and `R` relates what was there to
 -- what is written
 pub record AtNamed (tokens : List Text) (R : Content → Content → Type 0) (c d : Content) : Type 0 where
   pub path : Path

@@ -1,6 +1,6 @@
 -- Steps along the tokens of a pointer, one at a time.
 --
--- Used only by private contracts; no public contract depends on this file.
+-- Used only by contracts inside the library; no contract of a user's call depends on this file.
 use Rattle.std.specs.Prelude.{◌≡◌, ℕ, ◌<◌, ◌≤◌, ◌^◌, List, [], ◌∷◌, ◌++◌, length, Some, Bool, true, false, Result, IfOk, OnErr}
 use Rattle.std.specs.Borrow.{MutBor, RattleType, Fml, name_if_ok, follows_so}
 use Rattle.serde_json.specs.declared.value.Value.{Value}
@@ -40,35 +40,35 @@ pub record Enters (front left : List Text) (next : ℕ) (d e : Content) : Type 0
   pub there : child step d ≡ Some e
 
 module _ (tokens : List Text) (offset : ℕ) where
-  -- `MovesTo down d next e`: if `down`, then `e` is the child of `d` that the token at `offset` names, and `next` is the
+  -- `MovesByToken down d next e`: if `down`, then `e` is the child of `d` that the token at `offset` names, and `next` is the
   -- offset after that token. Otherwise no token is there, and `e` is `d`
-  abbrev pub MovesTo : Bool → Value → ℕ → Value → Type 0
-  MovesTo true d next e =
+  abbrev pub MovesByToken : Bool → Value → ℕ → Value → Type 0
+  MovesByToken true d next e =
       (next < 2 ^ 64) × (offset < next) × (next ≤ length (text tokens))
       × (HasNoTilde (text tokens) → (front left : List Text) → Begins tokens offset front left
       → Enters front left next (contents_of d) (contents_of e))
-  MovesTo false d next e =
+  MovesByToken false d next e =
       (next < 2 ^ 64)
       × ((front left : List Text) → Begins tokens offset front left → left ≡ [])
       × (e ≡ d)
 
-  -- `MovesBack down d w m`: `d` becomes `m` when what is borrowed from it becomes `w`
-  abbrev pub MovesBack : Bool → Value → Value → Value → Type 0
-  MovesBack true d w m =
+  -- `MovesBackByToken down d w m`: `d` becomes `m` when what is borrowed from it becomes `w`
+  abbrev pub MovesBackByToken : Bool → Value → Value → Value → Type 0
+  MovesBackByToken true d w m =
       HasNoTilde (text tokens) → (front : List Text) (x : Text) (rest : List Text) (s : Step)
       → Begins tokens offset front (x ∷ rest) → NamesStep (map_of (contents_of d) []) x s
       → contents_of m ≡ write_step s (contents_of w) (contents_of d)
-  MovesBack false d w m = m ≡ w
+  MovesBackByToken false d w m = m ≡ w
 
-  -- `IsLost d`: the token at `offset` names no child of `d`
-  abbrev pub IsLost : Value → Type 0
-  IsLost d =
+  -- `IsLostAtToken d`: the token at `offset` names no child of `d`
+  abbrev pub IsLostAtToken : Value → Type 0
+  IsLostAtToken d =
       HasNoTilde (text tokens) → (front : List Text) × (x : Text) × (rest : List Text)
       × Begins tokens offset front (x ∷ rest) × LacksStep (map_of (contents_of d)) [] x
 
 module _ (D : RattleType) (value : D.Denot → Value) {E : Type 0} where
-  -- `LendsMove at tokens offset r`: what the value `at` becomes, after the value that `r` borrows from it is written
-  abbrev pub LendsMove : MutBor D.Denot → List Text → ℕ → Result (StepResult D.Denot) E → Fml
-  LendsMove at tokens offset r = follows_so D D at.ghost_name (name_if_ok (λ t. t.node.ghost_name) r)
-      (λ w m. IfOk r (λ t. MovesBack tokens offset t.down (value at.now) (value w) (value m)))
+  -- `LendsTokenMove at tokens offset r`: what the value `at` becomes, after the value that `r` borrows from it is written
+  abbrev pub LendsTokenMove : MutBor D.Denot → List Text → ℕ → Result (StepResult D.Denot) E → Fml
+  LendsTokenMove at tokens offset r = follows_so D D at.ghost_name (name_if_ok (λ t. t.node.ghost_name) r)
+      (λ w m. IfOk r (λ t. MovesBackByToken tokens offset t.down (value at.now) (value w) (value m)))
       (λ m. OnErr r (contents_of (value m) ≡ contents_of (value at.now)))

@@ -34,7 +34,7 @@ abbrev pub write_at : Path → Content → Content → Content
 write_at [] c d = c
 write_at (s ∷ w) c d = write_below s (write_at w c) d (child s d)
 
--- `At w R c d`: writing at the path `w` of the content `c` gives `d`, and `R` relates what was there to what is written
+-- `At w R c d`: writing at the path `w` turns the content `c` into `d`, and `R` relates what was there to what is written
 pub record At (w : Path) (R : Content → Content → Type 0) (c d : Content) : Type 0 where
   pub old : Content
   pub new : Content

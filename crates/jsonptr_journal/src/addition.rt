@@ -68,7 +68,7 @@ pub enum Addition {
 }
 
 impl Addition {
-    /// Drops the value that was replaced, if any, without recursion.
+    /// Drops the value that was replaced, if any, however deep it nests.
     pub fn discard(self) {
         match self {
             Addition::Replaced { location: _, old } => discard(old),
@@ -89,6 +89,10 @@ impl Addition {
 /// Replaces the node at the location, and returns the old one.
 ///
 /// Needs no allocation. A call with the old node undoes it.
+///
+/// # Conditions
+///
+/// The location is in the document.
 ///
 /// # Examples
 ///
@@ -118,6 +122,10 @@ pub fn replace_node<D: NodeMut>(document: &mut D, location: &Location, value: Va
 ///
 /// The value itself, if the pointer leads to no node. The document is unchanged.
 ///
+/// # Conditions
+///
+/// The pointer has no `~`.
+///
 /// # Examples
 ///
 /// ```rust
@@ -129,33 +137,33 @@ pub fn replace_node<D: NodeMut>(document: &mut D, location: &Location, value: Va
 /// ```
 pub fn replace_at<D: NodeMut>(
     document: &mut D,
-    path: &PointerBuf,
+    pointer: &PointerBuf,
     value: Value,
 ) -> Result<Value, Value>
-    requires { HasNoTilde (text path.now) }
-    ensures replaced { IfOk result (λ old. AtNamed path.now
+    requires { HasNoTilde (text pointer.now) }
+    ensures replaced { IfOk result (λ old. AtNamed pointer.now
         (ReplacesContent (contents_of old) (contents_of value))
         (D.contents document.old) (D.contents document.new)) }
-    ensures refused { OnErr result (NamesNothing (map_of (D.contents document.old)) path.now) }
+    ensures refused { OnErr result (NamesNothing (map_of (D.contents document.old)) pointer.now) }
     ensures unchanged { OnErr result (D.contents document.new ≡ D.contents document.old) }
     ensures returned { IfErr result (λ v. v ≡ value) }
 {
-    match document.token_mut(path) {
+    match document.token_mut(pointer) {
         Ok(node) => Ok(mem::replace(node, value)),
         Err(_error) => Err(value),
     }
 }
 
 /// Puts back the node that was replaced where the pointer leads.
-pub(crate) fn restore<D: NodeMut>(document: &mut D, path: &PointerBuf, old: Value)
-    requires plain { HasNoTilde (text path.now) }
+pub(crate) fn restore<D: NodeMut>(document: &mut D, pointer: &PointerBuf, old: Value)
+    requires plain { HasNoTilde (text pointer.now) }
     requires replaced { (c v : Content)
-        × AtNamed path.now (ReplacesContent (contents_of old) v) c (D.contents document.old) }
+        × AtNamed pointer.now (ReplacesContent (contents_of old) v) c (D.contents document.old) }
     ensures { (c v : Content)
-        → AtNamed path.now (ReplacesContent (contents_of old) v) c (D.contents document.old)
+        → AtNamed pointer.now (ReplacesContent (contents_of old) v) c (D.contents document.old)
         → D.contents document.new ≡ c }
 {
-    match replace_at(document, path, old) {
+    match replace_at(document, pointer, old) {
         Ok(value) => discard(value),
         Err(_) => unreachable!(),
     }
@@ -255,6 +263,10 @@ pub(crate) fn delete_element<D: NodeMut>(document: &mut D, array: &Location, ind
 ///
 /// [`AllocFailed`] with the value, if an allocation fails. The document is unchanged.
 ///
+/// # Conditions
+///
+/// The value can be added at the target.
+///
 /// # Examples
 ///
 /// ```rust
@@ -298,6 +310,10 @@ pub fn add_last<D: NodeMut>(
 /// # Errors
 ///
 /// [`AllocFailed`] with the value, if an allocation fails. The document is unchanged.
+///
+/// # Conditions
+///
+/// The value can be added at the target.
 ///
 /// # Examples
 ///
@@ -367,6 +383,10 @@ fn add_member<D: NodeMut>(
 ///
 /// Needs no allocation.
 ///
+/// # Conditions
+///
+/// The location is in the document.
+///
 /// # Examples
 ///
 /// ```rust
@@ -391,6 +411,10 @@ pub fn replace<D: NodeMut>(document: &mut D, location: Location, value: Value) -
 /// Undoes an addition, and returns the value that was added.
 ///
 /// Needs no allocation.
+///
+/// # Conditions
+///
+/// The addition led to this document.
 ///
 /// # Examples
 ///

@@ -101,6 +101,10 @@ impl Journal {
     }
 
     /// Appends an entry. There is room for it.
+    ///
+    /// # Conditions
+    ///
+    /// The journal has room for an entry.
     pub fn push(&mut self, entry: Entry)
         requires { HasRoom self.old }
         ensures { (c b d : Content) → Undone self.old c b → IsEntryOf entry b d
@@ -114,6 +118,10 @@ impl Journal {
     /// # Errors
     ///
     /// [`AllocError`] if an allocation fails.
+    ///
+    /// # Conditions
+    ///
+    /// The value can be added at the target.
     ///
     /// # Examples
     ///
@@ -160,6 +168,10 @@ impl Journal {
     ///
     /// [`AllocError`] if the allocation for the entry fails. The document is unchanged.
     ///
+    /// # Conditions
+    ///
+    /// The location is in the document.
+    ///
     /// # Examples
     ///
     /// ```rust
@@ -199,6 +211,10 @@ impl Journal {
     /// # Errors
     ///
     /// [`AllocError`] if an allocation fails.
+    ///
+    /// # Conditions
+    ///
+    /// The location is in the document, to which the entries of the journal led.
     ///
     /// # Examples
     ///
@@ -353,7 +369,7 @@ impl Journal {
         }
     }
 
-    /// Drops the journal, and the values in it without recursion.
+    /// Drops the journal and the values in it, however deep they nest.
     pub fn discard(self) {
         let Journal { full, entries } = self;
         for page in full {
@@ -365,6 +381,10 @@ impl Journal {
     /// Undoes the changes, the last one first.
     ///
     /// Needs no allocation.
+    ///
+    /// # Conditions
+    ///
+    /// The entries of the journal led to this document.
     ///
     /// # Examples
     ///
@@ -386,7 +406,7 @@ impl Journal {
     }
 }
 
-/// Drops the entries, and the values in them without recursion.
+/// Drops the entries and the values in them, however deep they nest.
 fn discard_entries(entries: Vec<Entry>) {
     for entry in entries {
         entry.discard();
@@ -416,7 +436,7 @@ fn undo_entries<D: NodeMut>(alloc: Global, document: &mut D, entries: Vec<Entry>
 }
 
 impl Entry {
-    /// Drops the values that the entry has, without recursion.
+    /// Drops the values that the entry has, however deep they nest.
     pub fn discard(self) {
         match self {
             Entry::Added(addition) => addition.discard(),

@@ -27,11 +27,11 @@ pub struct LocatedNode<'v> {
 
 /// A child of a node.
 #[derive(Drop)]
-struct Child<'v, D> {
+struct Child<'v> {
     /// The step to the child.
     step: LocationStep,
     /// The child.
-    node: &'v D,
+    node: &'v Value,
 }
 
 /// Returns the node that the pointer resolves to, and its location.
@@ -101,14 +101,14 @@ fn find<'v>(
 /// # Errors
 ///
 /// [`AllocError`] if the allocation for its key fails.
-fn named_child<'v, D: Document>(
+fn named_child<'v>(
     alloc: Global,
-    at: &'v D,
+    node: &'v Value,
     token: &Token<'_>,
-) -> Result<Option<Child<'v, D>>, AllocError>
-    ensures { IfOk result (IsChildOf (D.nodes at.now) (D.stands_at at.now) token.now) }
+) -> Result<Option<Child<'v>>, AllocError>
+    ensures { IfOk result (IsChildOf (view node.now) token.now) }
 {
-    match at.node() {
+    match node.node() {
         Node::Leaf => Ok(None),
         Node::Array(elements) => match index_in(token, elements.len()) {
             Some(index) => Ok(Some(Child {

@@ -35,7 +35,7 @@ pub enum Removal {
     /// has no `~`.
     BlankAt {
         /// The pointer of the node.
-        path: PointerBuf,
+        pointer: PointerBuf,
     },
     /// A member was removed from an object.
     Member {
@@ -74,6 +74,10 @@ pub struct Taken {
 /// # Errors
 ///
 /// [`AllocError`] if an allocation fails. The document is unchanged.
+///
+/// # Conditions
+///
+/// The location is in the document.
 ///
 /// # Examples
 ///
@@ -175,6 +179,10 @@ pub(crate) fn remove_element<D: NodeMut>(
 ///
 /// Needs no allocation.
 ///
+/// # Conditions
+///
+/// The location is in the document.
+///
 /// # Examples
 ///
 /// ```rust
@@ -231,6 +239,10 @@ pub fn blank<D: NodeMut>(document: &mut D, location: &Location) -> Option<Value>
 ///
 /// Needs no allocation. For a member it moves all members of the object, for an element all
 /// elements of the array.
+///
+/// # Conditions
+///
+/// The removal of the value led to this document.
 pub fn undo_removal<D: NodeMut>(alloc: Global, document: &mut D, removal: Removal, value: Value)
     requires { (c : Content) × IsRemoval removal (contents_of value) c (D.contents document.old) }
     ensures { (c : Content) → IsRemoval removal (contents_of value) c (D.contents document.old)
@@ -239,7 +251,7 @@ pub fn undo_removal<D: NodeMut>(alloc: Global, document: &mut D, removal: Remova
     match removal {
         Removal::Root => drop(replace_node(document, &Location::root(alloc), value)),
         Removal::Blank { location } => undo_blank(document, location, value),
-        Removal::BlankAt { path } => restore(document, &path, value),
+        Removal::BlankAt { pointer } => restore(document, &pointer, value),
         Removal::Member { object, key, room } => undo_member(document, &object, key, value, room),
         Removal::Element { array, index, room } => undo_element(
             document, &array, index, value, room,

@@ -9,7 +9,7 @@ ghost use Rattle.jsonptr.specs.Pointer.{tokens};
 ghost use Rattle.jsonptr_document.specs.ChildRef.{IsIndexIn};
 ghost use Rattle.jsonptr_walk.specs.PrivateDescend.{Begins};
 ghost use Rattle.jsonptr_journal.specs.Location.{contents_of};
-ghost use Rattle.jsonptr_journal.specs.PrivateTokenStep.{IsTokenAt, IsElementIn, MovesTo, IsLost, LendsMove};
+ghost use Rattle.jsonptr_journal.specs.PrivateTokenStep.{IsTokenAt, IsElementIn, MovesByToken, IsLostAtToken, LendsTokenMove};
 
 use crate::locate::index_in;
 use jsonptr::{Pointer, PointerBuf, Token};
@@ -64,10 +64,10 @@ pub fn token_step<'v>(
     pointer: &PointerBuf,
     offset: usize,
 ) -> Result<StepResult<'v, Value>, TokenError>
-    ensures* writes_back { sem 𝓛 (LendsMove the_row (λ v. v) at.entry pointer.now offset result) }
+    ensures* writes_back { sem 𝓛 (LendsTokenMove the_row (λ v. v) at.entry pointer.now offset result) }
     ensures value { IfOk result (λ r.
-        MovesTo pointer.now offset r.down at.old r.next r.node.now)
-        × IfErr result (λ e. (e.offset ≡ offset) × IsLost pointer.now offset at.old) }
+        MovesByToken pointer.now offset r.down at.old r.next r.node.now)
+        × IfErr result (λ e. (e.offset ≡ offset) × IsLostAtToken pointer.now offset at.old) }
 {
     let Some((token, next)) = token_at(pointer.as_ptr(), offset) else {
         return Ok(StepResult {

@@ -91,11 +91,11 @@ fn add_element(
     readers: &mut Readers<'_>,
     depth: usize,
     index: usize,
-    value: &str,
+    json: &str,
 ) -> Result<(), CheckError>
     ensures passed { OnOk result ((ds ds2 : Items) × (e : Data)
         × ReadsItems depth readers.old.one ds readers.new.one × ReadsItems depth readers.old.two ds2 readers.new.two
-        × (read value.now ≡ Some e) × InsertsItem index e ds ds2) }
+        × (read json.now ≡ Some e) × InsertsItem index e ds ds2) }
     ensures one_shorter { OnOk result (length readers.new.one < length readers.old.one) }
     ensures two_shorter { OnOk result (length readers.new.two < length readers.old.two) }
 {
@@ -106,7 +106,7 @@ fn add_element(
             return Err(CheckError::Mismatch);
         }
         let wanted = is_at(count, index);
-        visit_element(scratch, readers, depth, wanted, value)?;
+        visit_element(scratch, readers, depth, wanted, json)?;
         is_done = is_either(is_done, wanted);
         count += 1;
     }
@@ -127,15 +127,15 @@ fn visit_element(
     readers: &mut Readers<'_>,
     depth: usize,
     wanted: bool,
-    value: &str,
+    json: &str,
 ) -> Result<(), CheckError>
     ensures passed { OnOk result ((d : Data) × ReadsTokens depth readers.old.two d readers.new.two
-        × AddsItemIf wanted value.now depth readers.old.one d readers.new.one) }
+        × AddsItemIf wanted json.now depth readers.old.one d readers.new.one) }
     ensures two_shorter { OnOk result (length readers.new.two < length readers.old.two) }
     ensures one_shorter { OnOk result (length readers.new.one ≤ length readers.old.one) }
 {
     if wanted {
-        same_text(scratch, &mut readers.two, depth, value)
+        same_text(scratch, &mut readers.two, depth, json)
     } else {
         if readers.one.take_end_array() {
             return Err(CheckError::Mismatch);
@@ -157,11 +157,11 @@ fn add_member(
     readers: &mut Readers<'_>,
     depth: usize,
     member: Wanted<'_>,
-    value: &str,
+    json: &str,
 ) -> Result<(), CheckError>
     ensures passed { OnOk result ((ms ms2 : Members) × (e : Data)
         × ReadsMembers depth readers.old.one ms readers.new.one × ReadsMembers depth readers.old.two ms2 readers.new.two
-        × (read value.now ≡ Some e) × InsertsMember member.entry.key.now e ms ms2) }
+        × (read json.now ≡ Some e) × InsertsMember member.entry.key.now e ms ms2) }
     ensures one_shorter { OnOk result (length readers.new.one < length readers.old.one) }
     ensures two_shorter { OnOk result (length readers.new.two < length readers.old.two) }
 {
@@ -178,7 +178,7 @@ fn add_member(
             wanted,
             named,
         };
-        visit_member(scratch, readers, depth, found, value)?;
+        visit_member(scratch, readers, depth, found, json)?;
         is_done = is_either(is_done, wanted);
         count = count.saturating_add(1);
     }
@@ -199,15 +199,15 @@ fn visit_member(
     readers: &mut Readers<'_>,
     depth: usize,
     found: FoundMember<'_>,
-    value: &str,
+    json: &str,
 ) -> Result<(), CheckError>
     ensures passed { OnOk result ((d : Data) × ReadsTokens depth readers.old.two d readers.new.two
-        × AddsMemberIf found.entry.wanted found.entry.named value.now depth found.entry.name.now readers.old.one d readers.new.one) }
+        × AddsMemberIf found.entry.wanted found.entry.named json.now depth found.entry.name.now readers.old.one d readers.new.one) }
     ensures two_shorter { OnOk result (length readers.new.two < length readers.old.two) }
     ensures one_shorter { OnOk result (length readers.new.one ≤ length readers.old.one) }
 {
     if found.wanted {
-        same_text(scratch, &mut readers.two, depth, value)
+        same_text(scratch, &mut readers.two, depth, json)
     } else if found.named {
         skip(&mut readers.two, depth)?;
         Ok(())

@@ -55,11 +55,11 @@ fn append_element(
     readers: &mut Readers<'_>,
     depth: usize,
     index: usize,
-    value: &str,
+    json: &str,
 ) -> Result<(), CheckError>
     ensures passed { OnOk result ((ds ds2 : Items) × (e : Data)
         × ReadsItems depth readers.old.one ds readers.new.one × ReadsItems depth readers.old.two ds2 readers.new.two
-        × (read value.now ≡ Some e) × (index ≡ items_count ds) × InsertsItem index e ds ds2) }
+        × (read json.now ≡ Some e) × (index ≡ items_count ds) × InsertsItem index e ds ds2) }
     ensures one_shorter { OnOk result (length readers.new.one < length readers.old.one) }
     ensures two_shorter { OnOk result (length readers.new.two < length readers.old.two) }
 {
@@ -74,7 +74,7 @@ fn append_element(
     if readers.two.take_end_array() || !is_at(count, index) {
         return Err(CheckError::Mismatch);
     }
-    same_text(scratch, &mut readers.two, depth, value)?;
+    same_text(scratch, &mut readers.two, depth, json)?;
     if !readers.two.take_end_array() {
         return Err(CheckError::Mismatch);
     }

@@ -21,8 +21,8 @@ use std::alloc::AllocError;
 /// Returns whether the new text reads as the old one with the edit of the value that the selectors
 /// lead to.
 ///
-/// Reads both texts once, side by side. With other positions than [`EditAt`] asks for the result is
-/// `false`.
+/// Reads both texts once, side by side. If the position of a member is not that of the last one with its
+/// key, the result is `false`. The position of an element is not looked at.
 ///
 /// # Errors
 ///

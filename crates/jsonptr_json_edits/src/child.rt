@@ -30,13 +30,13 @@ pub fn is_one_child(
     text: &str,
     extent: Extent,
     key: Option<&str>,
-    value: Option<&str>,
+    json: Option<&str>,
 ) -> Result<bool, AllocError>
     ensures child { IfOk result (λ b. IsTrue b → (e : Data)
-        × IsReadAs (option_map (λ v. v.now) value.entry) e
+        × IsReadAs (option_map (λ v. v.now) json.entry) e
         × IsOneChild (option_map (λ k. k.now) key.entry) e text.now) }
     ensures holds { IfOk result
-        (λ b. IsTrue b → HoldsIf (option_map (λ v. v.now) value.entry) text.now) }
+        (λ b. IsTrue b → HoldsIf (option_map (λ v. v.now) json.entry) text.now) }
 {
     let Some(parts) = cut_at(text, extent.child.from, extent.child.to) else {
         return Ok(false);
@@ -45,10 +45,10 @@ pub fn is_one_child(
         return Ok(false);
     }
     match key {
-        None => is_value(buffers, parts.middle, value),
+        None => is_value(buffers, parts.middle, json),
         Some(key) => {
             let from = extent.value.saturating_sub(extent.child.from);
-            is_member(buffers, parts.middle, from, key, value)
+            is_member(buffers, parts.middle, from, key, json)
         }
     }
 }
@@ -71,12 +71,12 @@ fn is_member(
     text: &str,
     from: usize,
     key: &str,
-    value: Option<&str>,
+    json: Option<&str>,
 ) -> Result<bool, AllocError>
     ensures member { IfOk result (λ b. IsTrue b → (e : Data)
-        × IsReadAs (option_map (λ v. v.now) value.entry) e × IsMemberText key.now e text.now) }
+        × IsReadAs (option_map (λ v. v.now) json.entry) e × IsMemberText key.now e text.now) }
     ensures holds { IfOk result
-        (λ b. IsTrue b → HoldsIf (option_map (λ v. v.now) value.entry) text.now) }
+        (λ b. IsTrue b → HoldsIf (option_map (λ v. v.now) json.entry) text.now) }
 {
     let bytes = text.as_bytes();
     let colon = trimmed_end(bytes, from).saturating_sub(1);
@@ -86,7 +86,7 @@ fn is_member(
     if !is_colon(parts.middle) || !is_name(&mut buffers.old, parts.before, key)? {
         return Ok(false);
     }
-    is_value(buffers, parts.after, value)
+    is_value(buffers, parts.after, json)
 }
 
 /// Returns whether the text is a string with this content, without white space around it.
@@ -112,14 +112,14 @@ fn is_string(scratch: &mut Scratch, text: &str, content: &str) -> Result<bool, A
 
 /// Returns whether the text is that of a value, without white space around it: of the value of the
 /// other text, if one is given.
-fn is_value(buffers: &mut Buffers, text: &str, value: Option<&str>) -> Result<bool, AllocError>
+fn is_value(buffers: &mut Buffers, text: &str, json: Option<&str>) -> Result<bool, AllocError>
     ensures value { IfOk result (λ b. IsTrue b → (e : Data)
-        × IsReadAs (option_map (λ v. v.now) value.entry) e × IsValueText e text.now) }
+        × IsReadAs (option_map (λ v. v.now) json.entry) e × IsValueText e text.now) }
     ensures holds { IfOk result
-        (λ b. IsTrue b → HoldsIf (option_map (λ v. v.now) value.entry) text.now) }
+        (λ b. IsTrue b → HoldsIf (option_map (λ v. v.now) json.entry) text.now) }
 {
-    match value {
-        Some(value) => is_value_of(buffers, text, value),
+    match json {
+        Some(json) => is_value_of(buffers, text, json),
         None => is_some_value(&mut buffers.old, text),
     }
 }

@@ -32,8 +32,8 @@ pub struct Route<'a> {
 
 /// Returns whether the selectors of the target lead to its value in the text.
 ///
-/// Reads the text once, and builds no document. With wrong positions the result is `false`. The
-/// tokens of the value must be those of the text there, one for one.
+/// Reads the text once, and builds no document. The positions are those that
+/// [`is_edited`](crate::check::is_edited) looks at. The tokens of the value must be those of the text there, one for one.
 ///
 /// # Errors
 ///

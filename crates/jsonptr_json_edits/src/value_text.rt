@@ -12,7 +12,7 @@ use std::alloc::{AllocError, Global};
 pub struct ValueText {
     /// The text on one line.
     pub flat: String,
-    /// The text over lines, if it has any. Each line ends with `\n`, and the first has no
+    /// The text over lines, if it has any. The lines are separated by `\n`, and the first has no
     /// indentation.
     pub lines: String,
 }

@@ -19,7 +19,8 @@ use std::alloc::Global;
 
 /// Follows the selectors in the JSON value that the text contains.
 ///
-/// Reads the whole text once, and allocates for unescaped strings and for the value that is found.
+/// Reads the whole text once. Allocates for the value that is found, and as much as the text is long
+/// if the scratch has less, to unescape strings.
 /// Of a repeated key the last member counts. Without selectors it is `Value::from_str`.
 ///
 /// # Errors
@@ -48,8 +49,8 @@ pub fn find_in_text(alloc: Global, text: &str, selectors: &[Selector]) -> Result
 /// Follows the selectors in the JSON value that the text contains, as [`find_in_text`] does, in a
 /// scratch of the caller.
 ///
-/// The scratch is that of any earlier call, also of one that failed. It keeps its memory, so that a
-/// search in a text that is no longer allocates for the found value alone.
+/// The scratch is that of any earlier call, also of one that failed. It keeps its memory. So a
+/// search in a text of at most the same length allocates only for the value that is found.
 ///
 /// # Errors
 ///

@@ -1,4 +1,4 @@
 -- When two results are the same, and which pointers a node has. The laws also use the definitions of the crates
--- below
+-- below.
 pub mod Answers
 pub mod OnePointer

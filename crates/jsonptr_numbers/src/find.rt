@@ -18,7 +18,8 @@ use std::alloc::{AllocError, Global};
 /// Returns the first number of the text whose digits are lost, or `None` if each number keeps its
 /// decimal value.
 ///
-/// One pass over the tokens; a second one, for the pointer, if there is such a number. If the text is
+/// One pass over the tokens. If there is such a number, the text is read twice more, for its pointer and to
+/// check that, and its document is allocated. If the text is
 /// not JSON, the numbers before the damage count.
 ///
 /// # Errors
@@ -40,19 +41,19 @@ pub fn find_lost(alloc: Global, text: &str) -> Result<Option<Lost>, AllocError>
     let mut scratch = Scratch::new(alloc);
     let mut reader = Reader::new(text, &mut scratch)?;
     match first_lost(&mut reader) {
-        Some(raw) => Ok(Some(lost_at(alloc, text, raw)?)),
+        Some(number) => Ok(Some(lost_at(alloc, text, number)?)),
         None => Ok(None),
     }
 }
 
 /// Returns the text of the first number that is left and is not kept.
 fn first_lost<'a>(reader: &mut Reader<'a>) -> Option<&'a str>
-    ensures { MatchOption result (AreKept reader.old) (λ raw. FirstLost raw.now reader.old) }
+    ensures { MatchOption result (AreKept reader.old) (λ number. FirstLost number.now reader.old) }
 {
     while let Some(token) = reader.next() {
-        if let Token::Number(raw) = token {
-            if !is_kept(raw) {
-                return Some(raw);
+        if let Token::Number(number) = token {
+            if !is_kept(number) {
+                return Some(number);
             }
         }
     }
@@ -60,14 +61,14 @@ fn first_lost<'a>(reader: &mut Reader<'a>) -> Option<&'a str>
 }
 
 /// Returns where the number is in the text, as far as the checks of it succeed.
-fn lost_at(alloc: Global, text: &str, raw: &str) -> Result<Lost, AllocError>
-    ensures { IfOk result (LocatesNumber text.now raw.now) }
+fn lost_at(alloc: Global, text: &str, number: &str) -> Result<Lost, AllocError>
+    ensures { IfOk result (LocatesNumber text.now number.now) }
 {
-    let length = raw.len();
+    let length = number.len();
     match path_of_first_lost(alloc, text)? {
         Some(Found { pointer, offset }) => Ok(Lost {
-            pointer: checked_pointer(alloc, text, raw, pointer)?,
-            offset: checked_offset(text, raw, offset),
+            pointer: checked_pointer(alloc, text, number, pointer)?,
+            offset: checked_offset(text, number, offset),
             length,
         }),
         None => Ok(Lost {
@@ -79,27 +80,27 @@ fn lost_at(alloc: Global, text: &str, raw: &str) -> Result<Lost, AllocError>
 }
 
 /// Returns the offset if the text of the number is there.
-fn checked_offset(text: &str, raw: &str, offset: usize) -> Option<usize>
-    ensures { IfSome result (IsAt text.now raw.now) }
+fn checked_offset(text: &str, number: &str, offset: usize) -> Option<usize>
+    ensures { IfSome result (IsAt text.now number.now) }
 {
     let (_before, rest) = text.split_at_checked(offset)?;
-    let (piece, _after) = rest.split_at_checked(raw.len())?;
-    if piece == raw { Some(offset) } else { None }
+    let (piece, _after) = rest.split_at_checked(number.len())?;
+    if piece == number { Some(offset) } else { None }
 }
 
 /// Returns the pointer if it resolves, in the text, to what the number is read as.
 fn checked_pointer(
     alloc: Global,
     text: &str,
-    raw: &str,
+    number: &str,
     pointer: PointerBuf,
 ) -> Result<Option<PointerBuf>, AllocError>
-    ensures { IfOk result (λ o. IfSome o (Identifies text.now raw.now)) }
+    ensures { IfOk result (λ o. IfSome o (Identifies text.now number.now)) }
 {
-    let (Some(document), Some(number)) = (read_text(alloc, text)?, read_text(alloc, raw)?) else {
+    let (Some(document), Some(value)) = (read_text(alloc, text)?, read_text(alloc, number)?) else {
         return Ok(None);
     };
-    if is_number_at(alloc, &document, &pointer, &number)? {
+    if is_number_at(alloc, &document, &pointer, &value)? {
         Ok(Some(pointer))
     } else {
         Ok(None)

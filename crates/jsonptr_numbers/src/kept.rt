@@ -64,15 +64,15 @@ fn is_negative(numeral: &Numeral<'_>) -> bool
 
 /// Returns whether the float that is read from the text is finite, and printed with the decimal
 /// value of the text.
-fn is_kept_float(text: &str, value: f64) -> bool
-    ensures finite { IsTrue result → IsTrue (float_is_finite value) }
-    ensures kept { IsTrue result → number_of text.now ≡ Some (float value) → IsKeptNumber text.now }
-    ensures lost { IsFalse result → number_of text.now ≡ (if float_is_finite value then Some (float value) else None)
+fn is_kept_float(text: &str, double: f64) -> bool
+    ensures finite { IsTrue result → IsTrue (float_is_finite double) }
+    ensures kept { IsTrue result → number_of text.now ≡ Some (float double) → IsKeptNumber text.now }
+    ensures lost { IsFalse result → number_of text.now ≡ (if float_is_finite double then Some (float double) else None)
         → IsLost text.now }
 {
-    if !value.is_finite() {
+    if !double.is_finite() {
         return false;
     }
     let mut buffer = ryu::Buffer::new();
-    have_same_value(text, buffer.format_finite_with_plus(value))
+    have_same_value(text, buffer.format_finite_with_plus(double))
 }

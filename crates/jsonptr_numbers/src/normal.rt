@@ -83,19 +83,19 @@ const TEN_TO_17: u64 = 100_000_000_000_000_000;
 
 /// Returns whether both texts have the same decimal value, if the parts of both are small enough to
 /// be compared, and the printed one has few digits.
-pub(crate) fn have_same_value(raw: &str, printed: &str) -> bool
-    ensures same { IsTrue result → HaveSameValue raw.now printed.now }
+pub(crate) fn have_same_value(number: &str, printed: &str) -> bool
+    ensures same { IsTrue result → HaveSameValue number.now printed.now }
     ensures short { IsTrue result → HasShortDigits (parts_of printed.now) }
-    ensures differ { IsFalse result → (¬ HaveSameValue raw.now printed.now)
-        ⊎ (HasHugeExponent (parts_of raw.now) ⊎ (¬ HasShortDigits (parts_of printed.now))) }
+    ensures differ { IsFalse result → (¬ HaveSameValue number.now printed.now)
+        ⊎ (HasHugeExponent (parts_of number.now) ⊎ (¬ HasShortDigits (parts_of printed.now))) }
 {
-    if has_minus(raw) != has_minus(printed) {
+    if has_minus(number) != has_minus(printed) {
         return false;
     }
     let Some(other) = normal_of(&numeral_of(printed)) else {
         return false;
     };
-    let Some(one) = normal_of(&numeral_of(raw)) else {
+    let Some(one) = normal_of(&numeral_of(number)) else {
         return false;
     };
     other.digits < TEN_TO_17 && is_same(one, other)

@@ -36,7 +36,7 @@ pub(crate) fn path_of_first_lost(alloc: Global, text: &str) -> Result<Option<Fou
 /// Returns whether the token is a number that is not kept.
 fn is_lost(token: Token<'_>) -> bool {
     match token {
-        Token::Number(raw) => !is_kept(raw),
+        Token::Number(number) => !is_kept(number),
         _ => false,
     }
 }

@@ -63,8 +63,8 @@ same_ends xs ys common more others x y l first second same =
     let at_xs : BeginsWith xs longer = (more, first ∙ sym (append_assoc common (x ∷ []) more)) in
     let at_ys : BeginsWith ys longer = (others, second ∙ ap (λ (t : Text). common ++ t ∷ others) (sym same) ∙ sym (append_assoc common (x ∷ []) others)) in
     let low : length longer ≤ length common = l.longest longer at_xs at_ys in
-    let grown : length longer ≡ length common + 1 = length-append common (x ∷ []) in
-    omega (arith, low, grown)
+    let one_more : length longer ≡ length common + 1 = length-append common (x ∷ []) in
+    omega (arith, low, one_more)
 
 one_way : (f g : List Text) (a b c d : Text) (ps qs rs ss : List Text) → f ++ a ∷ ps ≡ g ++ c ∷ rs → f ++ b ∷ qs ≡ g ++ d ∷ ss → a ≢ b → c ≢ d → f ≡ g
 one_way [] [] a b c d ps qs rs ss p q ne me = refl

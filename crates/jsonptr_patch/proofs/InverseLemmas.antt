@@ -164,21 +164,21 @@ element_step l len i e b = subst (λ (o : Option Label). NamesStep o (dec i) (pl
 new_element : (n m v : NodeMap) (tokens element : List Text) → IsSome (v []) → Adds n tokens v m → IsElementAt n tokens element → Takes m element v n
 new_element n m v tokens element some a h =
     let level : NodeMap = sub n h.path in
-    let grown : NodeMap = with_place h.index v level in
-    let k : NodeMap = put n h.path grown in
+    let inserted : NodeMap = with_place h.index v level in
+    let k : NodeMap = put n h.path inserted in
     let q : Path = h.path ++ place h.index ∷ [] in
     let made : m ≡ k = array_made n m v tokens element a h in
     let array : level [] ≡ Some (an_array h.len) = sub-root n h.path ∙ h.array in
-    let longer : grown [] ≡ Some (an_array (suc h.len)) = with_place-root h.index h.len v level array in
-    let root : IsSome (grown []) = subst (λ (l : Option Label). IsSome l) (sym longer) refl in
-    let child : sub k q ≡ v = sym (sub-sub k h.path (place h.index ∷ [])) ∙ ap (λ (z : NodeMap). sub z (place h.index ∷ [])) (sub-put n h.path grown) ∙ with_place-same h.index v level in
+    let longer : inserted [] ≡ Some (an_array (suc h.len)) = with_place-root h.index h.len v level array in
+    let root : IsSome (inserted []) = subst (λ (l : Option Label). IsSome l) (sym longer) refl in
+    let child : sub k q ≡ v = sym (sub-sub k h.path (place h.index ∷ [])) ∙ ap (λ (z : NodeMap). sub z (place h.index ∷ [])) (sub-put n h.path inserted) ∙ with_place-same h.index v level in
     let there : IsSome (k q) = subst (λ (l : Option Label). IsSome l) (sym (sym (sub-root k q) ∙ ap (λ (z : NodeMap). z []) child)) some in
     let within : h.index < suc h.len = omega (arith, h.means.0) in
-    let named : Names k element q = subst (λ (ts : List Text). Names k ts q) (sym h.element_is) (Names-push k h.front (dec h.index) h.path (place h.index) (Names-put n h.front h.path grown h.named root) (element_step (k h.path) h.len h.index (put_at n h.path grown ∙ longer) within) there) in
+    let named : Names k element q = subst (λ (ts : List Text). Names k ts q) (sym h.element_is) (Names-push k h.front (dec h.index) h.path (place h.index) (Names-put n h.front h.path inserted h.named root) (element_step (k h.path) h.len h.index (put_at n h.path inserted ∙ longer) within) there) in
     let whole : put k h.path (without_place h.index (sub k h.path)) ≡ n =
-    ap (λ (z : NodeMap). put k h.path (without_place h.index z)) (sub-put n h.path grown)
+    ap (λ (z : NodeMap). put k h.path (without_place h.index z)) (sub-put n h.path inserted)
     ∙ ap (put k h.path) (without-with level h.index h.len v array)
-    ∙ put-put n h.path grown level
+    ∙ put-put n h.path inserted level
     ∙ put-sub n h.path in
     subst (λ (z : NodeMap). Takes z element v n) (sym made) (record {
       found = record { path = q; named = named; below = sym child };

@@ -125,13 +125,13 @@ in_place k n v (Move from path) tokens tree t h p = record {
   applied = λ by m a.
       let both = local_diamond (λ n ts m. Takes n ts a.node m) (λ n ts m. Takes n ts v m) (local_take a.node) (local_take v) k a.left n from tokens p.1 a.taken t in
       let object : HasObject a.left tokens = seen_after (λ n ts m. Takes n ts a.node m) (local_take a.node) HasObject seen_has_object k a.left tokens from (diverges_turned k from tokens p.1) a.taken h in
-      let grown : IsTree a.left = (takes_tree k from a.node a.left tree a.taken).1 in
+      let left_tree : IsTree a.left = (takes_tree k from a.node a.left tree a.taken).1 in
       record {
         node = a.node;
         left = both.0;
         apart = a.apart;
         taken = both.2;
-        added = subst (λ (ts : List Text). Adds both.0 ts a.node m) (sym p.0) (adds_where_gone a.left both.0 v a.node m tokens grown both.1 object (subst (λ (ts : List Text). Adds a.left ts a.node m) p.0 a.added));
+        added = subst (λ (ts : List Text). Adds both.0 ts a.node m) (sym p.0) (adds_where_gone a.left both.0 v a.node m tokens left_tree both.1 object (subst (λ (ts : List Text). Adds a.left ts a.node m) p.0 a.added));
       };
   refused = λ by. refused;
 }

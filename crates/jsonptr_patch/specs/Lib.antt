@@ -1,5 +1,5 @@
 -- What each operation of a patch makes of a document, when it fails, what a whole list of operations does, which
--- operations a patch has, and when it needs no memory (RFC 6902)
+-- operations a patch has, and when it needs no memory (RFC 6902).
 pub mod Inserting
 pub mod Adding
 pub mod Testing

@@ -84,15 +84,15 @@ RefusesAdd n k tokens e =
     ((cause : ResolveError) × (e ≡ NoTarget k cause) × LacksTarget n tokens cause)
     ⊎ ((cause : AssignError) × (e ≡ BadPlace k cause) × LacksPlace n tokens cause)
 
--- `RefusesWay k from path e`: a node cannot be moved below itself, and `e` reports that, for operation number `k`
-abbrev pub RefusesWay : ℕ → List Text → List Text → PatchError → Type 0
-RefusesWay k from path e = (e ≡ MoveIntoSelf k) × IsProperPrefix from path
+-- `RefusesMoveIntoSelf k from path e`: a node cannot be moved below itself, and `e` reports that, for operation number `k`
+abbrev pub RefusesMoveIntoSelf : ℕ → List Text → List Text → PatchError → Type 0
+RefusesMoveIntoSelf k from path e = (e ≡ MoveIntoSelf k) × IsProperPrefix from path
 
 -- `RefusesMove n k from path e`: moving from `from` to `path` fails with `e`. The node would be moved below itself,
 -- or does not exist, or cannot be added to what is left without it
 abbrev pub RefusesMove : NodeMap → ℕ → List Text → List Text → PatchError → Type 0
 RefusesMove n k from path e =
-    RefusesWay k from path e
+    RefusesMoveIntoSelf k from path e
     ⊎ ((IsProperPrefix from path → ⊥)
     × (RefusesTarget n k from e
     ⊎ ((node left : NodeMap) × Takes n from node left × RefusesAdd left k path e)))

@@ -96,7 +96,7 @@ pub record Frees (k n : NodeMap) (o : Operation) : Type 0 where
   pub object : HasObject k tokens
   pub place : TakesPlace k o tokens
 
--- `CanWait n o`: operation `o` removes or moves a member of an object of `n`, and the pointers of a move diverge
+-- `CanWait n o`: the parent of what operation `o` removes or moves is an object of `n`, and the pointers of a move diverge
 abbrev pub CanWait : NodeMap → Operation → Type 0
 CanWait n (Add path value) = ⊥
 CanWait n (Remove path) = HasObject n path

@@ -221,7 +221,7 @@ pub fn fork<'a>(left: Pointer<'a>, right: Pointer<'_>) -> Option<Pointer<'a>>
 /// # Errors
 ///
 /// [`AllocError`] if an allocation fails.
-fn resolves_to_object(
+pub fn resolves_to_object(
     alloc: Global,
     document: &Value,
     pointer: Pointer<'_>,

@@ -3,8 +3,8 @@
 use jsonptr_value::discard;
 use serde_json::{Map, Value};
 
-/// Drops the value, without recursion below its children. It takes less time than [`discard`] if none of
-/// its children has children.
+/// Drops the value, however deep it nests. It takes less time than [`discard`] if all of its children are
+/// scalars.
 pub fn discard_small(value: Value) {
     if is_small(&value) {
         return drop(value);
@@ -12,7 +12,7 @@ pub fn discard_small(value: Value) {
     discard(value);
 }
 
-/// Returns whether no child of the value has children.
+/// Returns whether each child of the value is a scalar.
 fn is_small(value: &Value) -> bool {
     match value {
         Value::Array(elements) => are_leaves(elements),
@@ -21,7 +21,7 @@ fn is_small(value: &Value) -> bool {
     }
 }
 
-/// Returns whether no element has children.
+/// Returns whether each element is a scalar.
 fn are_leaves(elements: &Vec<Value>) -> bool {
     for element in elements {
         if !is_scalar(element) {
@@ -31,7 +31,7 @@ fn are_leaves(elements: &Vec<Value>) -> bool {
     true
 }
 
-/// Returns whether no member has children.
+/// Returns whether each member is a scalar.
 fn have_leaves(members: &Map<String, Value>) -> bool {
     for (_key, member) in members.iter() {
         if !is_scalar(member) {

@@ -56,19 +56,20 @@ fn members_have_float(members: &Map<String, Value>) -> bool
 
 /// Returns whether two values are equal for a `test` (RFC 6902, section 4.6).
 ///
-/// With [`Comparison::Strict`] a float equals nothing. Takes time linear in the values, and no memory. The
-/// stack is in proportion to the depth of the shallower value, since it goes no deeper than both.
+/// With [`Comparison::Strict`] a float equals nothing. Takes time linear in the values, times the logarithm
+/// of the members of an object, and no memory. The stack is in proportion to the depth of the shallower
+/// value, since it goes no deeper than both.
 ///
 /// # Examples
 ///
 /// ```rust
 /// let left = Value::from_str(alloc, r#"{"a": 1, "b": [2.0]}"#)?;
 /// let right = Value::from_str(alloc, r#"{"b": [2], "a": 1}"#)?;
-/// assert!(rt; is_equal(Comparison::Numeric, &left, &right));
-/// assert!(rt; !is_equal(Comparison::Strict, &left, &right));
+/// assert!(rt; is_equal(&left, &right, Comparison::Numeric));
+/// assert!(rt; !is_equal(&left, &right, Comparison::Strict));
 /// ```
 #[cycle(equal)]
-pub fn is_equal(comparison: Comparison, left: &Value, right: &Value) -> bool
+pub fn is_equal(left: &Value, right: &Value, comparison: Comparison) -> bool
     ensures { IsTrue result
         ↔ IsEqualBy comparison (nodes (view left.now)) (nodes (view right.now)) }
 {
@@ -79,7 +80,7 @@ pub fn is_equal(comparison: Comparison, left: &Value, right: &Value) -> bool
             None => false,
         },
         Value::Number(number) => match right.as_number() {
-            Some(other) => same_number(comparison, number, other),
+            Some(other) => same_number(number, other, comparison),
             None => false,
         },
         Value::String(text) => match right.as_str() {
@@ -87,18 +88,18 @@ pub fn is_equal(comparison: Comparison, left: &Value, right: &Value) -> bool
             None => false,
         },
         Value::Array(elements) => match right.as_array() {
-            Some(others) => same_elements(comparison, elements, others),
+            Some(others) => same_elements(elements, others, comparison),
             None => false,
         },
         Value::Object(members) => match right.as_object() {
-            Some(others) => same_members(comparison, members, others),
+            Some(others) => same_members(members, others, comparison),
             None => false,
         },
     }
 }
 
 /// Returns whether two numbers are equal for a test.
-fn same_number(comparison: Comparison, left: &Number, right: &Number) -> bool
+fn same_number(left: &Number, right: &Number, comparison: Comparison) -> bool
     ensures { IsTrue result
         ↔ SameNumberBy comparison (number_view left.now) (number_view right.now) }
 {
@@ -110,14 +111,14 @@ fn same_number(comparison: Comparison, left: &Number, right: &Number) -> bool
 
 /// Returns whether two arrays have the same length and equal elements.
 #[cycle(equal)]
-fn same_elements(comparison: Comparison, left: &Vec<Value>, right: &Vec<Value>) -> bool
+fn same_elements(left: &Vec<Value>, right: &Vec<Value>, comparison: Comparison) -> bool
     ensures { IsTrue result ↔ SameElements comparison left.now.items right.now.items }
 {
     if left.len() != right.len() {
         return false;
     }
     for (index, element) in left.iter().enumerate() {
-        if !is_equal(comparison, element, &right[index]) {
+        if !is_equal(element, &right[index], comparison) {
             return false;
         }
     }
@@ -127,15 +128,15 @@ fn same_elements(comparison: Comparison, left: &Vec<Value>, right: &Vec<Value>) 
 /// Returns whether two objects have the same keys, and equal members.
 #[cycle(equal)]
 fn same_members(
-    comparison: Comparison,
     left: &Map<String, Value>,
     right: &Map<String, Value>,
+    comparison: Comparison,
 ) -> bool
     ensures { IsTrue result ↔ SameMembers comparison left.now right.now }
 {
     for (key, member) in left.iter() {
         let same = match right.get(key.as_str()) {
-            Some(other) => is_equal(comparison, member, other),
+            Some(other) => is_equal(member, other, comparison),
             None => false,
         };
         if !same {

@@ -51,8 +51,8 @@ use std::alloc::{AllocError, Global};
 /// are taken back by two operations, which clone the value: one to a location above its source, and
 /// one that replaces a member without diverging from its source at an object.
 ///
-/// Otherwise it costs what [`apply`](crate::apply) costs. A move within one array removes the element
-/// twice.
+/// Otherwise it costs what [`apply`](crate::apply) costs. A move between two pointers that do not diverge
+/// at an object removes the value twice.
 ///
 /// If the keys of each object are in ascending order in the document and in the values that are moved
 /// into it, they are so in the new document and in the values of the inverse.
@@ -73,22 +73,22 @@ use std::alloc::{AllocError, Global};
 /// Those of [`apply`](crate::apply). The document is unchanged.
 pub fn apply_with_inverse(
     alloc: Global,
-    doc: &mut Value,
+    document: &mut Value,
     patch: Vec<Operation>,
 ) -> Result<Vec<Operation>, Fault<PatchError>>
     ensures applied { IfOk result (λ _.
-        Patches (nodes (view doc.old)) patch.items (nodes (view doc.new))) }
+        Patches (nodes (view document.old)) patch.items (nodes (view document.new))) }
     ensures sorted { IfOk result (λ _. All OperationHasSortedKeys patch.items
-        → HasSortedKeys (view doc.old) → HasSortedKeys (view doc.new)) }
+        → HasSortedKeys (view document.old) → HasSortedKeys (view document.new)) }
     ensures inverse { IfOk result (λ back.
-        Patches (nodes (view doc.new)) back.items (nodes (view doc.old))) }
+        Patches (nodes (view document.new)) back.items (nodes (view document.old))) }
     ensures inverse_sorted { IfOk result (λ back. All OperationHasSortedKeys patch.items
-        → HasSortedKeys (view doc.old) → All OperationHasSortedKeys back.items) }
+        → HasSortedKeys (view document.old) → All OperationHasSortedKeys back.items) }
     ensures empty { patch.items ≡ [] → IsOk result }
-    ensures refused { IfRefused result (RefusesPatch (nodes (view doc.old)) patch.items) }
-    ensures unchanged { OnErr result (view doc.new ≡ view doc.old) }
+    ensures refused { IfRefused result (RefusesPatch (nodes (view document.old)) patch.items) }
+    ensures unchanged { OnErr result (view document.new ≡ view document.old) }
 {
-    apply_comparing_with_inverse(alloc, doc, patch, Comparison::Strict)
+    apply_comparing_with_inverse(alloc, document, patch, Comparison::Strict)
 }
 
 /// Applies the operations in order, as [`apply_comparing`](crate::apply_comparing) does, and returns the
@@ -468,7 +468,7 @@ fn back_of_move(
     }
     let location = target(turn, document, from)?;
     if diverges(turn.alloc, document, from, path) {
-        return back_of_way(turn, document, inverse, from, path);
+        return back_of_diverging_move(turn, document, inverse, from, path);
     }
     let back = back_in_left(turn, document, location, path)?;
     append_reverse(turn, document, inverse, from, back)
@@ -479,7 +479,7 @@ fn back_of_move(
 /// # Errors
 ///
 /// [`Fault::Refused`] if the value cannot be added, and [`Fault::Memory`] if an allocation fails.
-fn back_of_way(
+fn back_of_diverging_move(
     turn: Turn,
     document: &Value,
     inverse: &mut Vec<Operation>,
@@ -691,7 +691,7 @@ fn append_both(
     }
 }
 
-/// Drops the operations, and the values in them without recursion.
+/// Drops the operations and the values in them, however deep they nest.
 fn discard_all(operations: Vec<Operation>) {
     for operation in operations {
         operation.discard();

@@ -20,7 +20,7 @@ ghost use Rattle.jsonptr_patch.specs.Inverse.{HasObject};
 ghost use Rattle.jsonptr_patch.specs.PrivateLater.{paths_of, IsKept, IsReached, IsPending, IsObjectAt, IsMemberAt, Forks, IsWaitingAt, TakesPlace, Frees, CanWait, StandsFor, IsSource};
 ghost use Rattle.jsonptr_patch.specs.PrivateRecording.{CanUndo, Records};
 
-use crate::apart::fork;
+use crate::apart::{fork, resolves_to_object};
 use crate::drop::discard_small;
 use crate::move_value::{AddError, add_taken, move_value};
 use crate::operation::{Operation, PatchError};
@@ -55,13 +55,7 @@ fn is_object(alloc: Global, document: &Value, pointer: Pointer<'_>) -> bool
     if pointer.is_root() {
         return is_map(document);
     }
-    match pointer.resolve(alloc, document) {
-        Ok(value) => match value.node() {
-            Node::Object(_) => true,
-            _ => false,
-        },
-        Err(_) => false,
-    }
+    matches!(resolves_to_object(alloc, document, pointer), Ok(true))
 }
 
 /// Returns whether the document is an object.
@@ -87,10 +81,7 @@ fn fork_at<'a>(pointer: Pointer<'a>, front: Pointer<'a>, other: Pointer<'_>) -> 
     if is_beside(pointer, front, other) {
         return Some(front);
     }
-    match fork(pointer, other) {
-        Some(common) => Some(common),
-        None => None,
-    }
+    fork(pointer, other)
 }
 
 /// Returns whether the other pointer goes on from `front`, which is the parent of `pointer`, with
@@ -109,7 +100,7 @@ fn is_beside(pointer: Pointer<'_>, front: Pointer<'_>, other: Pointer<'_>) -> bo
     if rest.is_root() {
         return false;
     }
-    lacks_front(other, pointer)
+    lacks_prefix(other, pointer)
 }
 
 /// Returns whether the first tokens of the two pointers differ, the first of which has only one.
@@ -121,26 +112,26 @@ fn is_beside_at_root(pointer: Pointer<'_>, other: Pointer<'_>) -> bool
     if other.is_root() {
         return false;
     }
-    lacks_front(other, pointer)
+    lacks_prefix(other, pointer)
 }
 
-/// Returns whether the pointer does not begin with the tokens of `front`.
+/// Returns whether the pointer does not begin with the tokens of `prefix`.
 #[inline(always)]
-fn lacks_front(pointer: Pointer<'_>, front: Pointer<'_>) -> bool
+fn lacks_prefix(pointer: Pointer<'_>, prefix: Pointer<'_>) -> bool
     ensures { IsTrue result
-        → (rest : List Text) → tokens pointer.entry ≡ tokens front.entry ++ rest → ⊥ }
+        → (rest : List Text) → tokens pointer.entry ≡ tokens prefix.entry ++ rest → ⊥ }
 {
-    let (text, start) = (pointer.as_str(), front.as_str());
+    let (text, start) = (pointer.as_str(), prefix.as_str());
     if text.len() <= start.len() {
-        return differ(pointer, front);
+        return differ(pointer, prefix);
     }
-    match pointer.strip_prefix(front) {
+    match pointer.strip_prefix(prefix) {
         Some(_) => false,
         None => true,
     }
 }
 
-/// Returns whether the two pointers differ.
+/// Returns whether the two pointers differ. A function of its own, so that proofs have its clause as a fact.
 #[inline(always)]
 fn differ(left: Pointer<'_>, right: Pointer<'_>) -> bool
     ensures { IsTrue result → tokens left.entry ≢ tokens right.entry }
@@ -240,9 +231,9 @@ fn is_apart(alloc: Global, document: &Value, later: &[Later], operation: &Operat
     }
 }
 
-/// Returns whether the pointer is that of a member of an object. May return false if an allocation
-/// fails.
-fn is_member(alloc: Global, document: &Value, path: Pointer<'_>) -> bool
+/// Returns whether the parent of the pointer resolves to an object, which need not have the member. May
+/// return false if an allocation fails.
+fn has_object(alloc: Global, document: &Value, path: Pointer<'_>) -> bool
     ensures { IsTrue result → HasObject (nodes (view document.now)) (tokens path.entry) }
 {
     match path.split_back() {
@@ -295,14 +286,15 @@ fn member_at(alloc: Global, document: &Value, later: &[Later], path: &PointerBuf
         × HasObject (nodes (view document.now)) path.now) }
 {
     let index = index_of(later, path)?;
-    if !is_member(alloc, document, path.as_ptr()) {
+    if !has_object(alloc, document, path.as_ptr()) {
         return None;
     }
     Some(index)
 }
 
 /// Returns whether the operation adds a value at the location of a node that is removed later, and is
-/// apart from the others. Then that removal waits no more: the value replaces its `null`.
+/// apart from the others. Then that removal waits no more: the value replaces what is there, the node or
+/// the `null` that a move left.
 ///
 /// May return false if an allocation fails.
 pub fn take_place(
@@ -382,6 +374,10 @@ fn location_of(alloc: Global, document: &Value, one: Later) -> Result<Location, 
 /// Removes the nodes that were to be removed later.
 ///
 /// Needs no allocation, and nothing undoes it.
+///
+/// # Conditions
+///
+/// The nodes that are removed later are in the document.
 pub fn unlink(alloc: Global, document: &mut Value, run: &mut Run)
     requires { (n : NodeMap) × IsPending (nodes (view document.old)) run.old.later.items n }
     ensures same { (n : NodeMap)
@@ -441,6 +437,10 @@ const MOST_LATER: usize = 1024;
 /// # Errors
 ///
 /// [`AllocError`] if an allocation fails. To undo the journal restores the document.
+///
+/// # Conditions
+///
+/// The journal can be undone in the document, which has the nodes that are removed later.
 pub fn settle(
     alloc: Global,
     document: &mut Value,
@@ -473,6 +473,10 @@ pub fn settle(
 /// # Errors
 ///
 /// [`AllocError`] if an allocation fails. To undo the journal restores the document.
+///
+/// # Conditions
+///
+/// The journal can be undone in the document, which has the nodes that are removed later.
 pub fn make_apart(
     alloc: Global,
     document: &mut Value,
@@ -582,7 +586,7 @@ fn move_later(
 ) -> Result<(), Fault<PatchError>>
     requires apart { AllDiverge (nodes (view document.old)) (from ∷ tokens path ∷ [])
         (paths_of run.old.later.items) }
-    requires ways { Diverges (nodes (view document.old)) from (tokens path) }
+    requires diverges { Diverges (nodes (view document.old)) from (tokens path) }
     requires member { HasObject (nodes (view document.old)) from }
     ensures moved { IfOk result (λ _. (n : NodeMap)
         → IsPending (nodes (view document.old)) run.old.later.items n
@@ -653,7 +657,7 @@ fn take_plain(document: &mut Value, path: PointerBuf) -> Option<Taken>
     match replace_at(document, &path, Value::Null) {
         Ok(value) => Some(Taken {
             value,
-            removal: Removal::BlankAt { path },
+            removal: Removal::BlankAt { pointer: path },
         }),
         Err(_) => None,
     }
@@ -751,24 +755,29 @@ fn below(alloc: Global, object: Location, last: &Token<'_>) -> Option<Location>
     }
 }
 
-/// Returns whether the removal of the operation can wait until all operations are applied. It removes or
-/// moves a member of an object, and the pointers of a move diverge at an object. May return false if an
-/// allocation fails.
+/// Returns whether the removal of the operation can wait until all operations are applied. The
+/// parent of what it removes or moves resolves to an object, and the pointers of a move diverge at an
+/// object. May return false if an allocation fails.
 pub fn can_wait(alloc: Global, document: &Value, operation: &Operation) -> bool
     ensures { IsTrue result → CanWait (nodes (view document.now)) operation.now }
 {
     match operation {
-        Operation::Remove { path } => is_member(alloc, document, path.as_ptr()),
+        Operation::Remove { path } => has_object(alloc, document, path.as_ptr()),
         Operation::Move { from, path } => {
-            is_way_out(alloc, document, from.as_ptr(), path.as_ptr())
+            diverges_from_member(alloc, document, from.as_ptr(), path.as_ptr())
         }
         _ => false,
     }
 }
 
-/// Returns whether `from` is the pointer of a member of an object, and the two pointers diverge at an
-/// object. May return false if an allocation fails.
-fn is_way_out(alloc: Global, document: &Value, from: Pointer<'_>, path: Pointer<'_>) -> bool
+/// Returns whether the parent of `from` resolves to an object, and the two pointers diverge at an object.
+/// May return false if an allocation fails.
+fn diverges_from_member(
+    alloc: Global,
+    document: &Value,
+    from: Pointer<'_>,
+    path: Pointer<'_>,
+) -> bool
     ensures { IsTrue result → HasObject (nodes (view document.now)) (tokens from.entry)
         × Diverges (nodes (view document.now)) (tokens from.entry) (tokens path.entry) }
 {
@@ -794,7 +803,7 @@ pub fn moved_location(
 ) -> Option<Location>
     ensures member { IfSome result (λ here.
         IsMemberAt (nodes (view document.now)) (tokens from.entry) (path_of here)) }
-    ensures ways { IfSome result (λ _.
+    ensures diverges { IfSome result (λ _.
         Diverges (nodes (view document.now)) (tokens from.entry) (tokens path.entry)) }
 {
     if !diverges(alloc, document, from, path) {
@@ -846,6 +855,11 @@ fn wait(
 ///
 /// [`Fault::Refused`] if the operation fails, and [`Fault::Memory`] if an allocation fails. To undo
 /// the journal restores the document.
+///
+/// # Conditions
+///
+/// The journal can be undone in the document, and the operation is apart from the nodes that are
+/// removed later.
 pub fn record_apart(
     turn: Turn,
     document: &mut Value,
@@ -880,6 +894,10 @@ pub fn record_apart(
 ///
 /// [`Fault::Refused`] if the operation fails, and [`Fault::Memory`] if an allocation fails. To undo
 /// the journal restores the document.
+///
+/// # Conditions
+///
+/// The journal can be undone in the document, which has the nodes that are removed later.
 pub fn record_or_wait(
     turn: Turn,
     document: &mut Value,

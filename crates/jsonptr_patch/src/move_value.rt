@@ -115,7 +115,7 @@ fn move_member(
     path: Pointer<'_>,
     location: Location,
 ) -> Result<(), Fault<PatchError>>
-    requires ways { Diverges (nodes (view document.old)) (tokens from) (tokens path) }
+    requires diverges { Diverges (nodes (view document.old)) (tokens from) (tokens path) }
     requires member { IsMemberAt (nodes (view document.old)) (tokens from) (path_of location) }
     ensures moved { IfOk result (λ _. Moves (nodes (view document.old)) (tokens from.entry)
         (tokens path.entry) (nodes (view document.new))) }

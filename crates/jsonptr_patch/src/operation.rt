@@ -65,7 +65,7 @@ pub enum Operation {
 }
 
 impl Operation {
-    /// Drops the operation, and its value without recursion.
+    /// Drops the operation and its value, however deep that nests.
     pub(crate) fn discard(self) {
         match self {
             Operation::Add { value, .. } => discard(value),

@@ -240,6 +240,10 @@ fn finish(
 ///
 /// [`Fault::Refused`] if the operation fails, and [`Fault::Memory`] if an allocation fails. To undo
 /// the journal restores the document.
+///
+/// # Conditions
+///
+/// The journal can be undone in the document.
 pub fn record(
     turn: Turn,
     document: &mut Value,

@@ -25,6 +25,10 @@ use serde_json::Value;
 ///
 /// [`Fault::Refused`] if the pointer does not resolve to a value, and [`Fault::Memory`] if an
 /// allocation fails.
+///
+/// # Conditions
+///
+/// The journal can be undone in the document.
 pub fn remove(
     turn: Turn,
     document: &mut Value,

@@ -63,7 +63,7 @@ fn compare(turn: Turn, target: &Value, value: &Value) -> Result<(), Fault<PatchE
             operation: turn.number,
         }));
     }
-    if !is_equal(Comparison::Strict, target, value) {
+    if !is_equal(target, value, Comparison::Strict) {
         return Err(Fault::Refused(PatchError::TestFailed {
             operation: turn.number,
         }));
@@ -82,7 +82,7 @@ fn compare_numerically(turn: Turn, target: &Value, value: &Value) -> Result<(), 
     ensures refused { IfRefused result (DiffersNumerically turn.number target.now value.now) }
     ensures no_memory { HasMemory result }
 {
-    if !is_equal(Comparison::Numeric, target, value) {
+    if !is_equal(target, value, Comparison::Numeric) {
         return Err(Fault::Refused(PatchError::TestFailed {
             operation: turn.number,
         }));

@@ -5,7 +5,7 @@ use Rattle.std.proofs.lemmas.Bool.{cases_lt}
 use Rattle.jsonptr.specs.Text.{Text, dec}
 use Rattle.jsonptr.specs.Node.{Step, key, place, Path, Label, an_object, an_array, a_leaf, NodeMap, sub, NamesStep, Names, MayHave, IsTree}
 use Rattle.jsonptr.specs.Put.{GoesThrough, rest_after}
-use Rattle.jsonptr.specs.Growing.{grown}
+use Rattle.jsonptr.specs.Expansion.{expanded}
 use Rattle.jsonptr.specs.Landing.{Lands}
 use Rattle.jsonptr.specs.Assigning.{Assigns, with_room, long_enough}
 use Rattle.jsonptr_tree.proofs.NodeLemmas.{Names-pop, IsTree-above, IsTree-sub}
@@ -255,7 +255,7 @@ part_more n m v Seen p part next tree e = record {
 pub assigned_next : (n m v k : NodeMap) (old : Option NodeMap) (Seen : Path → Type 0) (ts : List Text) (p : Path) → IsPart n Seen m → IsNext n Seen p → Lands m ts p [] → IsTree v → IsEmptied v (n p) → Assigns m ts v k old → IsPart n (λ w. Seen w ⊎ (w ≡ p)) k
 assigned_next n m v k old Seen ts p part next lands tree e a =
     let one = Lands_one m ts a.path p a.left [] a.lands lands in
-    let is : k ≡ made m p v = a.made ∙ ap₂ (λ (q : Path) (left : List Text). made m q (grown left v)) one.0 one.1 in
+    let is : k ≡ made m p v = a.made ∙ ap₂ (λ (q : Path) (left : List Text). made m q (expanded left v)) one.0 one.1 in
     let whole : IsTree k = Assigns-tree m ts v k old part.tree tree a in
     subst (IsPart n (λ w. Seen w ⊎ (w ≡ p))) (sym is) (part_more n m v Seen p part next (subst IsTree is whole) e)
 
@@ -263,7 +263,7 @@ assigned_next n m v k old Seen ts p part next lands tree e a =
 pub assigned_root : (n m v k : NodeMap) (old : Option NodeMap) → IsSome (n []) → IsSome (m []) → IsTree v → IsEmptied v (n []) → Assigns m [] v k old → IsPart n (λ w. w ≡ []) k
 assigned_root n m v k old here root tree e a =
     let one = Lands_one m [] a.path [] a.left [] a.lands (Lands_named m [] [] root) in
-    let is : k ≡ made m [] v = a.made ∙ ap₂ (λ (q : Path) (left : List Text). made m q (grown left v)) one.0 one.1 in
+    let is : k ≡ made m [] v = a.made ∙ ap₂ (λ (q : Path) (left : List Text). made m q (expanded left v)) one.0 one.1 in
     let same : made m [] v ≡ v = fun_ext (λ (w : Path). refl) in
     subst (IsPart n (λ w. w ≡ [])) (sym (is ∙ same)) (record {
       tree = tree;

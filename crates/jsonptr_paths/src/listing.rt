@@ -43,7 +43,7 @@ pub enum Listed {
 /// line has one tab, and a line break at its end only. Every other pointer starts with `/` or is
 /// empty.
 ///
-/// Takes time linear in the length of the lines, and logarithmic time for each object above a node.
+/// Takes time linear in the length of the lines of all nodes, and logarithmic time for each object above a node.
 ///
 /// # Errors
 ///

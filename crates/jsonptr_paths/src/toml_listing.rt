@@ -21,7 +21,7 @@ use toml::{Table, Value};
 /// TOML: a date-time, `inf` and `1.0` as a document has them. A string whose TOML text takes several
 /// lines is printed as a JSON string.
 ///
-/// Takes time linear in the length of the lines, and logarithmic time for each table above a node.
+/// Takes time linear in the length of the lines of all nodes, and logarithmic time for each table above a node.
 ///
 /// # Errors
 ///

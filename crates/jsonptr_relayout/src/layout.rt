@@ -81,7 +81,7 @@ pub fn relayout_with_texts(
         return Err(RelayoutError::TooDeep);
     }
     let printed = new.to_string(alloc)?;
-    match laid_out(alloc, old, printed.as_str(), given, new)? {
+    match laid_out(alloc, old, new, printed.as_str(), given)? {
         Some(text) => Ok(Relaid::Kept(text)),
         None => Ok(Relaid::Rewritten(printed)),
     }
@@ -116,7 +116,7 @@ pub fn relayout_text(alloc: Global, old: &str, new: &str) -> Result<Relaid, Rela
     if are_same(&document, &value) {
         return Ok(Relaid::Kept(String::from_str(alloc, old)?));
     }
-    match laid_out(alloc, old, new, &[], &value)? {
+    match laid_out(alloc, old, &value, new, &[])? {
         Some(text) => Ok(Relaid::Kept(text)),
         None => Ok(Relaid::Rewritten(String::from_str(alloc, new)?)),
     }
@@ -133,7 +133,7 @@ fn read_document(alloc: Global, text: &str) -> Result<Option<Value>, AllocError>
     if_json(jsonptr_value::read(alloc, text))
 }
 
-/// Returns the text of the document `new`, which `text` is a text of, in the layout of the text `old`.
+/// Returns the text of the document `new`, which `printed` is a text of, in the layout of the text `old`.
 /// Returns `None` if the text that was made is not one.
 ///
 /// # Errors
@@ -142,13 +142,13 @@ fn read_document(alloc: Global, text: &str) -> Result<Option<Value>, AllocError>
 fn laid_out(
     alloc: Global,
     old: &str,
-    text: &str,
-    given: &[&str],
     new: &Value,
+    printed: &str,
+    given: &[&str],
 ) -> Result<Option<String>, AllocError>
     ensures { IfOk result (λ o. IfSome o (λ s. ReadsAs (string_bytes s) (nodes (view new.now)))) }
 {
-    let Some(candidate) = candidate(alloc, old, text, given)? else {
+    let Some(candidate) = candidate(alloc, old, printed, given)? else {
         return Ok(None);
     };
     match read_document(alloc, candidate.as_str())? {
@@ -161,7 +161,7 @@ fn laid_out(
     }
 }
 
-/// Makes a text of the document that `text` is a text of, in the layout of the text `old`. Whether it
+/// Makes a text of the document that `printed` is a text of, in the layout of the text `old`. Whether it
 /// is one has to be seen by reading it.
 ///
 /// # Errors
@@ -170,13 +170,13 @@ fn laid_out(
 fn candidate(
     alloc: Global,
     old: &str,
-    text: &str,
+    printed: &str,
     given: &[&str],
 ) -> Result<Option<String>, AllocError> {
     let Some(from) = tree_of(alloc, old)? else {
         return Ok(None);
     };
-    let Some(to) = tree_of(alloc, text)? else {
+    let Some(to) = tree_of(alloc, printed)? else {
         return Ok(None);
     };
     let given_trees = trees_of(alloc, given)?;
@@ -185,7 +185,7 @@ fn candidate(
         to,
         given: given_trees,
     };
-    Ok(Some(relaid_text(alloc, old, text, given, &trees)?))
+    Ok(Some(relaid_text(alloc, old, printed, given, &trees)?))
 }
 
 /// The trees of texts.
@@ -203,7 +203,7 @@ struct Trees {
 fn relaid_text<'t>(
     alloc: Global,
     old: &'t str,
-    text: &'t str,
+    printed: &'t str,
     given: &'t [&'t str],
     trees: &'t Trees,
 ) -> Result<String, AllocError> {
@@ -220,7 +220,7 @@ fn relaid_text<'t>(
         is_spread: old.trim_end().contains('\n'),
     };
     let to = GivenValue {
-        text,
+        text: printed,
         node: &trees.to,
     };
     layer.lay(&trees.from, to, at, MAX_DEPTH + 1)?;

@@ -11,7 +11,7 @@ use Rattle.jsonptr_session.specs.declared.session.Reply.{Reply}
 use Rattle.jsonptr_session.specs.declared.session.Reply.TheVariants as reply
 
 module _ {V : Type 0} (nodes : V → NodeMap) where
-  -- `command_of call`: the machine's command for a call.
+  -- `command_of call`: the machine's command for a call
   abbrev pub command_of : Call V → Command
   command_of (call.Parse s) = machine.parse (string_bytes s)
   command_of (call.PushBack s) = machine.push_back (string_bytes s)
@@ -26,7 +26,7 @@ module _ {V : Type 0} (nodes : V → NodeMap) where
   command_of (call.Assign v) = machine.assign (nodes v)
   command_of call.Delete = machine.delete
 
-  -- `answer_of reply`: the machine's answer for a reply. `None` if an allocation failed.
+  -- `answer_of reply`: the machine's answer for a reply. `None` if an allocation failed
   abbrev pub answer_of : Reply V → Option Answer
   answer_of reply.Done = Some machine.done
   answer_of (reply.BadPointer r) = Some (machine.bad_pointer (original_of r) (string_bytes (subject_of r)))

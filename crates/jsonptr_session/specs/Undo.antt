@@ -33,14 +33,14 @@ IsUndoError n tokens (Memory e) = ⊤
 
 module _ {V : Type 0} (nodes : V → NodeMap) where
   -- `AssignsWithUndo n tokens v m u`: assigning `v` at `tokens` turns `n` into `m`. The undo `u` has the replaced
-  -- value, or removes the new one, and its tokens evaluate to the location of `v` in `m`.
+  -- value, or removes the new one, and its tokens evaluate to the location of `v` in `m`
   pub record AssignsWithUndo (n : NodeMap) (tokens : List Text) (v m : NodeMap)
       (u : Undo V) : Type 0 where
     pub assigned : Assigns n tokens v m (option_map nodes (put_by u))
     pub landing : Names m (tokens_at u) assigned.path
 
   -- `Undoes blank n u m`: undo `u` turns `n` into `m`, by replacing or deleting the node at its tokens. Deleting the
-  -- root leaves `blank`.
+  -- root leaves `blank`
   abbrev pub Undoes : NodeMap → NodeMap → Undo V → NodeMap → Type 0
   Undoes blank n (Put p v) m = PutsAt n p (nodes v) m
   Undoes blank n (Remove p) m = ((w : Path) × Names n p w) × Deletes n p blank m

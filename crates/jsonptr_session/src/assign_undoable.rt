@@ -34,7 +34,7 @@ pub fn assign_undoable<D: SessionDocument>(
         → Undoes D.nodes D.blank (D.nodes document.new) u m → m ≡ D.nodes document.old) }
     ensures sorted { IfOk result (λ _.
         D.has_sorted_keys value → D.has_sorted_keys document.old → D.has_sorted_keys document.new) }
-    ensures given_sorted { IfOk result (λ u.
+    ensures returned_sorted { IfOk result (λ u.
         IfPut u (λ v. D.has_sorted_keys document.old → D.has_sorted_keys v)) }
     ensures refused { IfRefused result
         (RefusesAssign (D.nodes document.old) (tokens pointer.entry)) }

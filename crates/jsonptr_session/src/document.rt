@@ -52,7 +52,7 @@ pub trait SessionDocument: Sized + Drop {
     /// allocation fails.
     fn copy_at(&self, alloc: Global, pointer: Pointer<'_>) -> Result<Self, Fault<resolve::Error>>
         ensures found { IfOk result (λ v. Finds (nodes self.now) (tokens pointer.entry) (nodes v)) }
-        ensures given_sorted { IfOk result (λ v. has_sorted_keys self.now → has_sorted_keys v) }
+        ensures returned_sorted { IfOk result (λ v. has_sorted_keys self.now → has_sorted_keys v) }
         ensures refused { IfRefused result (Refuses (nodes self.now) (tokens pointer.entry)) }
         ensures no_memory { HasNoTilde (text (tokens pointer.entry))
             → NamesNothing (nodes self.now) (tokens pointer.entry) → HasMemory result };
@@ -75,7 +75,7 @@ pub trait SessionDocument: Sized + Drop {
             PutsAt (nodes self.old) (tokens pointer.entry) (nodes value.old) (nodes self.new)) }
         ensures sorted { IfOk result (λ _.
             has_sorted_keys value.old → has_sorted_keys self.old → has_sorted_keys self.new) }
-        ensures given_sorted { IfOk result (λ _.
+        ensures returned_sorted { IfOk result (λ _.
             has_sorted_keys self.old → has_sorted_keys value.new) }
         ensures refused { IfRefused result (Refuses (nodes self.old) (tokens pointer.entry)) }
         ensures map_unchanged { OnErr result (nodes self.new ≡ nodes self.old) }
@@ -99,7 +99,7 @@ pub trait SessionDocument: Sized + Drop {
             (nodes value) (nodes self.new) (option_map nodes r)) }
         ensures sorted { IfOk result (λ _.
             has_sorted_keys value → has_sorted_keys self.old → has_sorted_keys self.new) }
-        ensures given_sorted { IfOk result (λ r.
+        ensures returned_sorted { IfOk result (λ r.
             IfSome r (λ v. has_sorted_keys self.old → has_sorted_keys v)) }
         ensures refused { IfRefused result (RefusesAssign (nodes self.old) (tokens pointer.entry)) }
         ensures map_unchanged { OnErr result (nodes self.new ≡ nodes self.old) }
@@ -120,7 +120,7 @@ pub trait SessionDocument: Sized + Drop {
             (λ v. Finds (nodes self.old) (tokens pointer.entry) (nodes v)
             × Deletes (nodes self.old) (tokens pointer.entry) blank (nodes self.new))) }
         ensures sorted { IfOk result (λ _. has_sorted_keys self.old → has_sorted_keys self.new) }
-        ensures given_sorted { IfOk result (λ r.
+        ensures returned_sorted { IfOk result (λ r.
             IfSome r (λ v. has_sorted_keys self.old → has_sorted_keys v)) }
         ensures missing { IfOk result (λ r. MatchOption r (is_same self.old self.new) (λ _. ⊤)) }
         ensures map_unchanged { OnErr result (nodes self.new ≡ nodes self.old) }
@@ -135,7 +135,7 @@ pub trait SessionDocument: Sized + Drop {
 
     // if `e` is the same document as `d`, and the keys of `d` are in ascending order, those of `e`
     // are
-    ghost same_order: { (d e : Self) → is_same d e → has_sorted_keys d → has_sorted_keys e };
+    ghost same_sorted: { (d e : Self) → is_same d e → has_sorted_keys d → has_sorted_keys e };
 }
 
 /// Swaps `value` with the value that a pointer resolves to in a document of any type.

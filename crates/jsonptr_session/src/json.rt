@@ -60,5 +60,5 @@ impl SessionDocument for Value {
 
     ghost same_self = { λ d. refl };
 
-    ghost same_order = { λ d e same ordered. subst HasSortedKeys (sym same) ordered };
+    ghost same_sorted = { λ d e same ordered. subst HasSortedKeys (sym same) ordered };
 }

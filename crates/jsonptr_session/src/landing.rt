@@ -47,17 +47,17 @@ fn landing_before(
         → NamesLanding n (tokens pointer.entry) landing) }
 {
     match error {
-        Error::Unreachable { position, .. } => before(alloc, pointer, *position),
-        Error::NotFound { position, .. } => through(alloc, pointer, *position),
+        Error::Unreachable { position, .. } => prefix_before(alloc, pointer, *position),
+        Error::NotFound { position, .. } => prefix_through(alloc, pointer, *position),
         // The value becomes the last element, whose index is the array's length. The token fails to
         // parse as that index only if the length exceeds `usize`.
-        Error::FailedToParseIndex { position, .. } => through(alloc, pointer, *position),
+        Error::FailedToParseIndex { position, .. } => prefix_through(alloc, pointer, *position),
         Error::OutOfBounds {
             position,
             source,
             ..
         } => {
-            let mut landing = before(alloc, pointer, *position)?;
+            let mut landing = prefix_before(alloc, pointer, *position)?;
             landing.push_back(Token::from_number(alloc, source.length)?)?;
             Ok(landing)
         }
@@ -69,7 +69,11 @@ fn landing_before(
 /// # Errors
 ///
 /// [`AllocError`] if an allocation fails.
-fn before(alloc: Global, pointer: Pointer<'_>, position: usize) -> Result<PointerBuf, AllocError>
+fn prefix_before(
+    alloc: Global,
+    pointer: Pointer<'_>,
+    position: usize,
+) -> Result<PointerBuf, AllocError>
     ensures { IfOk result (λ part. (front rest : List Text)
         → tokens pointer.entry ≡ front ++ rest
         → position ≡ length front
@@ -86,7 +90,11 @@ fn before(alloc: Global, pointer: Pointer<'_>, position: usize) -> Result<Pointe
 /// # Errors
 ///
 /// [`AllocError`] if an allocation fails.
-fn through(alloc: Global, pointer: Pointer<'_>, position: usize) -> Result<PointerBuf, AllocError>
+fn prefix_through(
+    alloc: Global,
+    pointer: Pointer<'_>,
+    position: usize,
+) -> Result<PointerBuf, AllocError>
     ensures { IfOk result (λ part. (front : List Text) (x : Text) (rest : List Text)
         → tokens pointer.entry ≡ front ++ x ∷ rest
         → position ≡ length front

@@ -149,6 +149,10 @@ pub fn state_law<P: EditPointer>(ptr: &P)
 }
 
 /// States that each call is read as a command of a session.
+///
+/// # Conditions
+///
+/// `nodes v` is the map of a document, for each value `v`.
 pub fn call_law<V>(call: &Call<V>)
     ghost nodes: { V → NodeMap }
     requires { (v : V) → IsDocument (nodes v) }

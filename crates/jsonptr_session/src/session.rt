@@ -137,7 +137,7 @@ pub fn run_json(
         (record { tokens = ptr.new; nodes = json_map doc.new })) }
     ensures sorted { IfOk result (λ _. All (CallHas JsonHasSortedKeys) calls.items
         → JsonHasSortedKeys doc.old → JsonHasSortedKeys doc.new) }
-    ensures given_sorted { IfOk result (λ replies. All (CallHas JsonHasSortedKeys) calls.items
+    ensures returned_sorted { IfOk result (λ replies. All (CallHas JsonHasSortedKeys) calls.items
         → JsonHasSortedKeys doc.old → All (ReplyHas JsonHasSortedKeys) replies.items) }
     ensures unchanged { OnErr result ((ptr.new ≡ ptr.old) × (doc.new ≡ doc.old)) }
 {
@@ -171,7 +171,7 @@ pub fn run_json_with<P: EditPointer>(
         (record { tokens = P.list ptr.new; nodes = json_map doc.new })) }
     ensures sorted { IfOk result (λ _. All (CallHas JsonHasSortedKeys) calls.items
         → JsonHasSortedKeys doc.old → JsonHasSortedKeys doc.new) }
-    ensures given_sorted { IfOk result (λ replies. All (CallHas JsonHasSortedKeys) calls.items
+    ensures returned_sorted { IfOk result (λ replies. All (CallHas JsonHasSortedKeys) calls.items
         → JsonHasSortedKeys doc.old → All (ReplyHas JsonHasSortedKeys) replies.items) }
     ensures unchanged { OnErr result ((ptr.new ≡ ptr.old) × (doc.new ≡ doc.old)) }
 {
@@ -205,7 +205,7 @@ pub fn run_toml(
         (record { tokens = ptr.new; nodes = toml_map doc.new })) }
     ensures sorted { IfOk result (λ _. All (CallHas TomlHasSortedKeys) calls.items
         → TomlHasSortedKeys doc.old → TomlHasSortedKeys doc.new) }
-    ensures given_sorted { IfOk result (λ replies. All (CallHas TomlHasSortedKeys) calls.items
+    ensures returned_sorted { IfOk result (λ replies. All (CallHas TomlHasSortedKeys) calls.items
         → TomlHasSortedKeys doc.old → All (ReplyHas TomlHasSortedKeys) replies.items) }
     ensures unchanged { OnErr result ((ptr.new ≡ ptr.old) × (doc.new ≡ doc.old)) }
 {
@@ -238,7 +238,7 @@ pub fn run_toml_with<P: EditPointer>(
         (record { tokens = P.list ptr.new; nodes = toml_map doc.new })) }
     ensures sorted { IfOk result (λ _. All (CallHas TomlHasSortedKeys) calls.items
         → TomlHasSortedKeys doc.old → TomlHasSortedKeys doc.new) }
-    ensures given_sorted { IfOk result (λ replies. All (CallHas TomlHasSortedKeys) calls.items
+    ensures returned_sorted { IfOk result (λ replies. All (CallHas TomlHasSortedKeys) calls.items
         → TomlHasSortedKeys doc.old → All (ReplyHas TomlHasSortedKeys) replies.items) }
     ensures unchanged { OnErr result ((ptr.new ≡ ptr.old) × (doc.new ≡ doc.old)) }
 {

@@ -32,7 +32,7 @@ pub fn run<P: EditPointer, D: SessionDocument>(
     ensures sorted { IfOk result (λ _.
         All (CallHas D.has_sorted_keys) calls.items → D.has_sorted_keys document.old
         → D.has_sorted_keys document.new) }
-    ensures given_sorted { IfOk result (λ replies.
+    ensures returned_sorted { IfOk result (λ replies.
         All (CallHas D.has_sorted_keys) calls.items → D.has_sorted_keys document.old
         → All (ReplyHas D.has_sorted_keys) replies.items) }
     ensures unchanged { OnErr result ((pointer.new ≡ pointer.old) × (document.new ≡ document.old)) }
@@ -58,7 +58,7 @@ fn turn<P: EditPointer, D: SessionDocument>(
         (record { tokens = P.list pointer.new; nodes = D.nodes document.new }) }
     ensures sorted { CallHas D.has_sorted_keys call → D.has_sorted_keys document.old
         → D.has_sorted_keys document.new }
-    ensures given_sorted { D.has_sorted_keys document.old → ReplyHas D.has_sorted_keys result }
+    ensures returned_sorted { D.has_sorted_keys document.old → ReplyHas D.has_sorted_keys result }
 {
     match answer(alloc, pointer, document, call) {
         Ok(reply) => reply,
@@ -83,7 +83,7 @@ fn answer<P: EditPointer, D: SessionDocument>(
         (record { tokens = P.list pointer.new; nodes = D.nodes document.new }) }
     ensures sorted { CallHas D.has_sorted_keys call → D.has_sorted_keys document.old
         → D.has_sorted_keys document.new }
-    ensures given_sorted { IfOk result (λ reply.
+    ensures returned_sorted { IfOk result (λ reply.
         D.has_sorted_keys document.old → ReplyHas D.has_sorted_keys reply) }
 {
     match call {
@@ -95,10 +95,10 @@ fn answer<P: EditPointer, D: SessionDocument>(
         Call::Replace(index, text) => replace(alloc, pointer, index, text),
         Call::Append(other) => append(pointer, other),
         Call::Clear => clear(pointer),
-        Call::Resolve => resolve(alloc, pointer.as_ptr(), document),
-        Call::Write(value) => write(alloc, pointer.as_ptr(), document, value),
-        Call::Assign(value) => assign(alloc, pointer.as_ptr(), document, value),
-        Call::Delete => delete(alloc, pointer.as_ptr(), document),
+        Call::Resolve => resolve(alloc, document, pointer.as_ptr()),
+        Call::Write(value) => write(alloc, document, pointer.as_ptr(), value),
+        Call::Assign(value) => assign(alloc, document, pointer.as_ptr(), value),
+        Call::Delete => delete(alloc, document, pointer.as_ptr()),
     }
 }
 
@@ -109,7 +109,7 @@ fn parse<P: EditPointer, D: SessionDocument>(
 ) -> Result<Reply<D>, AllocError>
     ensures steps { StepsOnTokens D.blank (P.list pointer.old) (machine.parse (string_bytes text))
         (answered D.nodes result) (P.list pointer.new) }
-    ensures given_sorted { IfOk result (ReplyHas D.has_sorted_keys) }
+    ensures returned_sorted { IfOk result (ReplyHas D.has_sorted_keys) }
 {
     match pointer.set_text(text) {
         Ok(()) => Ok(Reply::Done),
@@ -126,7 +126,7 @@ fn push_back<P: EditPointer, D: SessionDocument>(
 ) -> Result<Reply<D>, AllocError>
     ensures steps { StepsOnTokens D.blank (P.list pointer.old)
         (machine.push_back (string_bytes text)) (answered D.nodes result) (P.list pointer.new) }
-    ensures given_sorted { IfOk result (ReplyHas D.has_sorted_keys) }
+    ensures returned_sorted { IfOk result (ReplyHas D.has_sorted_keys) }
 {
     pointer.push_back(Token::new(alloc, CowStr::Owned(text))?)?;
     Ok(Reply::Done)
@@ -140,7 +140,7 @@ fn push_front<P: EditPointer, D: SessionDocument>(
 ) -> Result<Reply<D>, AllocError>
     ensures steps { StepsOnTokens D.blank (P.list pointer.old)
         (machine.push_front (string_bytes text)) (answered D.nodes result) (P.list pointer.new) }
-    ensures given_sorted { IfOk result (ReplyHas D.has_sorted_keys) }
+    ensures returned_sorted { IfOk result (ReplyHas D.has_sorted_keys) }
 {
     pointer.push_front(Token::new(alloc, CowStr::Owned(text))?)?;
     Ok(Reply::Done)
@@ -150,7 +150,7 @@ fn push_front<P: EditPointer, D: SessionDocument>(
 fn pop_back<P: EditPointer, D: SessionDocument>(pointer: &mut P) -> Result<Reply<D>, AllocError>
     ensures steps { StepsOnTokens D.blank (P.list pointer.old) machine.pop_back
         (answered D.nodes result) (P.list pointer.new) }
-    ensures given_sorted { IfOk result (ReplyHas D.has_sorted_keys) }
+    ensures returned_sorted { IfOk result (ReplyHas D.has_sorted_keys) }
 {
     Ok(Reply::Token(pointer.pop_back()?))
 }
@@ -159,7 +159,7 @@ fn pop_back<P: EditPointer, D: SessionDocument>(pointer: &mut P) -> Result<Reply
 fn pop_front<P: EditPointer, D: SessionDocument>(pointer: &mut P) -> Result<Reply<D>, AllocError>
     ensures steps { StepsOnTokens D.blank (P.list pointer.old) machine.pop_front
         (answered D.nodes result) (P.list pointer.new) }
-    ensures given_sorted { IfOk result (ReplyHas D.has_sorted_keys) }
+    ensures returned_sorted { IfOk result (ReplyHas D.has_sorted_keys) }
 {
     Ok(Reply::Token(pointer.pop_front()?))
 }
@@ -173,7 +173,7 @@ fn replace<P: EditPointer, D: SessionDocument>(
 ) -> Result<Reply<D>, AllocError>
     ensures steps { StepsOnTokens D.blank (P.list pointer.old)
         (machine.replace index (string_bytes text)) (answered D.nodes result) (P.list pointer.new) }
-    ensures given_sorted { IfOk result (ReplyHas D.has_sorted_keys) }
+    ensures returned_sorted { IfOk result (ReplyHas D.has_sorted_keys) }
 {
     let count = pointer.as_ptr().count();
     if count <= index {
@@ -192,7 +192,7 @@ fn append<P: EditPointer, D: SessionDocument>(
 ) -> Result<Reply<D>, AllocError>
     ensures steps { StepsOnTokens D.blank (P.list pointer.old) (machine.append other)
         (answered D.nodes result) (P.list pointer.new) }
-    ensures given_sorted { IfOk result (ReplyHas D.has_sorted_keys) }
+    ensures returned_sorted { IfOk result (ReplyHas D.has_sorted_keys) }
 {
     pointer.append(other.as_ptr())?;
     Ok(Reply::Done)
@@ -202,7 +202,7 @@ fn append<P: EditPointer, D: SessionDocument>(
 fn clear<P: EditPointer, D: SessionDocument>(pointer: &mut P) -> Result<Reply<D>, AllocError>
     ensures steps { StepsOnTokens D.blank (P.list pointer.old) machine.clear
         (answered D.nodes result) (P.list pointer.new) }
-    ensures given_sorted { IfOk result (ReplyHas D.has_sorted_keys) }
+    ensures returned_sorted { IfOk result (ReplyHas D.has_sorted_keys) }
 {
     pointer.clear();
     Ok(Reply::Done)
@@ -211,12 +211,12 @@ fn clear<P: EditPointer, D: SessionDocument>(pointer: &mut P) -> Result<Reply<D>
 /// Makes the call `Call::Resolve`.
 fn resolve<D: SessionDocument>(
     alloc: Global,
-    pointer: Pointer<'_>,
     document: &D,
+    pointer: Pointer<'_>,
 ) -> Result<Reply<D>, AllocError>
     ensures steps { StepsOnNodes D.blank (tokens pointer.entry) (D.nodes document.now)
         machine.resolve (answered D.nodes result) (D.nodes document.now) }
-    ensures given_sorted { IfOk result (λ reply.
+    ensures returned_sorted { IfOk result (λ reply.
         D.has_sorted_keys document.now → ReplyHas D.has_sorted_keys reply) }
 {
     match document.copy_at(alloc, pointer) {
@@ -228,15 +228,15 @@ fn resolve<D: SessionDocument>(
 /// Makes the call `Call::Write`.
 fn write<D: SessionDocument>(
     alloc: Global,
-    pointer: Pointer<'_>,
     document: &mut D,
+    pointer: Pointer<'_>,
     value: D,
 ) -> Result<Reply<D>, AllocError>
     ensures steps { StepsOnNodes D.blank (tokens pointer.entry) (D.nodes document.old)
         (machine.write (D.nodes value)) (answered D.nodes result) (D.nodes document.new) }
     ensures sorted { D.has_sorted_keys value → D.has_sorted_keys document.old
         → D.has_sorted_keys document.new }
-    ensures given_sorted { IfOk result (λ reply.
+    ensures returned_sorted { IfOk result (λ reply.
         D.has_sorted_keys document.old → ReplyHas D.has_sorted_keys reply) }
 {
     let mut value = value;
@@ -249,15 +249,15 @@ fn write<D: SessionDocument>(
 /// Makes the call `Call::Assign`.
 fn assign<D: SessionDocument>(
     alloc: Global,
-    pointer: Pointer<'_>,
     document: &mut D,
+    pointer: Pointer<'_>,
     value: D,
 ) -> Result<Reply<D>, AllocError>
     ensures steps { StepsOnNodes D.blank (tokens pointer.entry) (D.nodes document.old)
         (machine.assign (D.nodes value)) (answered D.nodes result) (D.nodes document.new) }
     ensures sorted { D.has_sorted_keys value → D.has_sorted_keys document.old
         → D.has_sorted_keys document.new }
-    ensures given_sorted { IfOk result (λ reply.
+    ensures returned_sorted { IfOk result (λ reply.
         D.has_sorted_keys document.old → ReplyHas D.has_sorted_keys reply) }
 {
     match document.assign_at(alloc, pointer, value) {
@@ -269,13 +269,13 @@ fn assign<D: SessionDocument>(
 /// Makes the call `Call::Delete`.
 fn delete<D: SessionDocument>(
     alloc: Global,
-    pointer: Pointer<'_>,
     document: &mut D,
+    pointer: Pointer<'_>,
 ) -> Result<Reply<D>, AllocError>
     ensures steps { StepsOnNodes D.blank (tokens pointer.entry) (D.nodes document.old)
         machine.delete (answered D.nodes result) (D.nodes document.new) }
     ensures sorted { D.has_sorted_keys document.old → D.has_sorted_keys document.new }
-    ensures given_sorted { IfOk result (λ reply.
+    ensures returned_sorted { IfOk result (λ reply.
         D.has_sorted_keys document.old → ReplyHas D.has_sorted_keys reply) }
 {
     Ok(Reply::Deleted(document.delete_at(alloc, pointer)?))

@@ -45,14 +45,14 @@ pub(crate) fn split_at_boundary(text: &str, at: usize) -> Option<(&str, &str)>
     }
 }
 
-/// Returns the text after the prefix `front` if that is empty or begins with a `/`.
+/// Returns the text after `prefix` if that is empty or begins with a `/`.
 #[inline(always)]
-pub(crate) fn after_front<'a>(text: &'a str, front: &str) -> Option<&'a str>
+pub(crate) fn after_prefix<'a>(text: &'a str, prefix: &str) -> Option<&'a str>
     ensures { MatchOption result
-        ((rest : Text) → IsSplit text.now front.now rest → ⊥)
-        (λ r. IsSplit text.now front.now r.now) }
+        ((rest : Text) → IsSplit text.now prefix.now rest → ⊥)
+        (λ r. IsSplit text.now prefix.now r.now) }
 {
-    let rest = text.strip_prefix(front)?;
+    let rest = text.strip_prefix(prefix)?;
     match rest.as_bytes() {
         [] | [b'/', ..] => Some(rest),
         _ => None,

@@ -133,27 +133,27 @@ impl<'a> PointerText<'a> {
         Some((PointerText { inner: front }, PointerText { inner: rest }))
     }
 
-    /// Returns the tokens after the prefix `front`, or `None` if the pointer starts otherwise.
+    /// Returns the tokens after `prefix`, or `None` if the pointer starts otherwise.
     #[inline(always)]
-    pub fn strip_prefix(&self, front: PointerText<'_>) -> Option<PointerText<'a>>
+    pub fn strip_prefix(&self, prefix: PointerText<'_>) -> Option<PointerText<'a>>
         ensures { MatchOption result
-            (BeginsWith (tokens self.now) (tokens front.entry) → ⊥)
-            (λ r. tokens self.now ≡ tokens front.entry ++ tokens r) }
+            (BeginsWith (tokens self.now) (tokens prefix.entry) → ⊥)
+            (λ r. tokens self.now ≡ tokens prefix.entry ++ tokens r) }
     {
-        let rest = boundary::after_front(self.inner, front.inner)?;
+        let rest = boundary::after_prefix(self.inner, prefix.inner)?;
         Some(PointerText { inner: rest })
     }
 
-    /// Returns the tokens before the suffix `back`, or `None` if the pointer does not end with it.
+    /// Returns the tokens before `suffix`, or `None` if the pointer does not end with it.
     ///
     /// The root is a suffix of every pointer, and stripping it changes nothing.
     #[inline(always)]
-    pub fn strip_suffix(&self, back: PointerText<'_>) -> Option<PointerText<'a>>
+    pub fn strip_suffix(&self, suffix: PointerText<'_>) -> Option<PointerText<'a>>
         ensures { MatchOption result
-            (EndsWith (tokens self.now) (tokens back.entry) → ⊥)
-            (λ r. tokens self.now ≡ tokens r ++ tokens back.entry) }
+            (EndsWith (tokens self.now) (tokens suffix.entry) → ⊥)
+            (λ r. tokens self.now ≡ tokens r ++ tokens suffix.entry) }
     {
-        let front = self.inner.strip_suffix(back.inner)?;
+        let front = self.inner.strip_suffix(suffix.inner)?;
         Some(PointerText { inner: front })
     }
 

@@ -39,9 +39,9 @@ pub(crate) fn extend(offsets: &mut Vec<usize>, end: usize, pointer: Pointer<'_>)
     ensures { offsets.new.items ≡ offsets.old.items ++ offsets_up_to end (tokens pointer.entry) }
 {
     let mut rest = pointer;
-    while let Some((_, behind)) = rest.split_front() {
+    while let Some((_, after)) = rest.split_front() {
         offsets.push_reserved(end - rest.as_str().len());
-        rest = behind;
+        rest = after;
     }
 }
 
@@ -114,7 +114,7 @@ fn shift_down(offsets: &mut [usize], by: usize)
 ///
 /// Each offset that is moved is at most `before`, and its distance from `before` is at most
 /// `after`.
-pub(crate) fn move_places(offsets: &mut [usize], from: usize, before: usize, after: usize)
+pub(crate) fn move_offsets(offsets: &mut [usize], from: usize, before: usize, after: usize)
     requires { CanMove offsets.old from before after }
     ensures { MovesOffsets offsets.old offsets.new from before after }
 {

@@ -395,7 +395,7 @@ impl TabledPointer {
     {
         let before = len_of(&self.plain);
         let old = self.plain.replace(index, token)?;
-        table::move_places(&mut self.offsets, index + 1, before, len_of(&self.plain));
+        table::move_offsets(&mut self.offsets, index + 1, before, len_of(&self.plain));
         Ok(old)
     }
 

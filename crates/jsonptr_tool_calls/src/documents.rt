@@ -84,7 +84,7 @@ where
 {
     out.begin();
     match call {
-        "write" => match replace(document, out.alloc(), pointer, value) {
+        "write" => match replace(out.alloc(), document, pointer, value) {
             Ok(old) => said(out, "old", "", &old),
             Err(fault) => missed(out, fault, pointer),
         },
@@ -98,8 +98,8 @@ where
 
 /// Replaces the value that a pointer resolves to, and returns the old one.
 fn replace<D>(
-    document: &mut D,
     alloc: Global,
+    document: &mut D,
     pointer: Pointer<'_>,
     value: D,
 ) -> Result<D, Fault<resolve::Error>>

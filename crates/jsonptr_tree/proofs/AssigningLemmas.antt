@@ -5,7 +5,7 @@ use Rattle.jsonptr_grammar.specs.Text.{Text, dec}
 use Rattle.jsonptr_tree.specs.Node.{Step, key, place, Path, Scalar, Label, an_object, an_array, a_leaf, NodeMap, sub, NamesStep, Names, MayHave, IsTree, IsListed}
 use Rattle.jsonptr_tree.specs.Following.{Finds, StopsAt}
 use Rattle.jsonptr_tree.specs.Put.{GoesThrough, same_step, rest_after, put}
-use Rattle.jsonptr_tree.specs.Growing.{is_append_index, grown, LacksDash}
+use Rattle.jsonptr_tree.specs.Expansion.{is_append_index, expanded, LacksDash}
 use Rattle.jsonptr_tree.specs.Landing.{LandsFrom, Lands, LandsNowhere}
 use Rattle.jsonptr_tree.specs.Assigning.{long_enough, with_room, found_at, Assigns}
 use Rattle.jsonptr_tree.proofs.NodeLemmas.{sub-root, sub-sub, Names-here, Names-root, Names-append, IsTree-sub}
@@ -13,7 +13,7 @@ use Rattle.jsonptr_tree.proofs.FollowingLemmas.{stops-lacks, cases_some}
 use Rattle.jsonptr_tree.proofs.PutLemmas.{same_step-refl, cases_same, rest_after-step, rest_after-other, rest_after-append, rest_after-shorter, put_none, put_below, same_by_step, put-step, put-other_step, sub-put, Names-put}
 use Rattle.jsonptr_tree.proofs.ListedLemmas.{IsListed-put, IsListed-within}
 use Rattle.jsonptr_tree.proofs.TreeLemmas.{IsTree-level, IsTree-child, IsTree-put}
-use Rattle.jsonptr_tree.proofs.GrowingLemmas.{IsTree-grown, IsListed-grown, Finds-grown}
+use Rattle.jsonptr_tree.proofs.ExpansionLemmas.{IsTree-expanded, IsListed-expanded, Finds-expanded}
 use Rattle.jsonptr_tree.proofs.LandingLemmas.{means_end-cases, Lands_one, Lands_named, Lands_leaf, Lands_object, Lands_end, Lands-LandsNowhere, lands}
 
 -- with room
@@ -214,12 +214,12 @@ IsListed-with_room n p h = IsListed-within n (with_room n p) (λ w i. room-some 
 pub Assigns_one : (n : NodeMap) (tokens : List Text) (v m k : NodeMap) (old was : Option NodeMap) → Assigns n tokens v m old → Assigns n tokens v k was → (m ≡ k) × (old ≡ was)
 Assigns_one n tokens v m k old was a b =
     let same = Lands_one n tokens a.path b.path a.left b.left a.lands b.lands in
-    (a.made ∙ ap₂ (λ (p : Path) (left : List Text). made n p (grown left v)) same.0 same.1 ∙ sym b.made, a.replaced ∙ ap (found_at n) same.0 ∙ sym b.replaced)
+    (a.made ∙ ap₂ (λ (p : Path) (left : List Text). made n p (expanded left v)) same.0 same.1 ∙ sym b.made, a.replaced ∙ ap (found_at n) same.0 ∙ sym b.replaced)
 
 -- and each value that lands somewhere is assigned
 pub Assigns-some : (n : NodeMap) (tokens : List Text) (v : NodeMap) → IsTree n → ((m : NodeMap) × (old : Option NodeMap) × Assigns n tokens v m old) ⊎ ((position offset len : ℕ) × (x : Text) × LandsNowhere n tokens position offset len x)
 Assigns-some n tokens v tree = ⊎_elim
-    (λ (r : (p : Path) × (left : List Text) × Lands n tokens p left). inl (made n r.0 (grown r.1 v), found_at n r.0, record { path = r.0; left = r.1; lands = r.2; made = refl; replaced = refl }))
+    (λ (r : (p : Path) × (left : List Text) × Lands n tokens p left). inl (made n r.0 (expanded r.1 v), found_at n r.0, record { path = r.0; left = r.1; lands = r.2; made = refl; replaced = refl }))
     (λ (r : (position offset len : ℕ) × (x : Text) × LandsNowhere n tokens position offset len x). inr r)
     (lands n tokens tree)
 
@@ -228,16 +228,16 @@ pub Assigns-LandsNowhere : (n : NodeMap) (tokens : List Text) (v m : NodeMap) (o
 Assigns-LandsNowhere n tokens v m old position offset len x a r = Lands-LandsNowhere n tokens position offset len x a.path a.left a.lands r
 
 -- the expanded value is where it lands
-pub Assigns-there : (n : NodeMap) (tokens : List Text) (v m : NodeMap) (old : Option NodeMap) (r : Assigns n tokens v m old) → sub m r.path ≡ grown r.left v
-Assigns-there n tokens v m old r = ap (λ (k : NodeMap). sub k r.path) r.made ∙ sub-put (with_room n r.path) r.path (grown r.left v)
+pub Assigns-there : (n : NodeMap) (tokens : List Text) (v m : NodeMap) (old : Option NodeMap) (r : Assigns n tokens v m old) → sub m r.path ≡ expanded r.left v
+Assigns-there n tokens v m old r = ap (λ (k : NodeMap). sub k r.path) r.made ∙ sub-put (with_room n r.path) r.path (expanded r.left v)
 
 -- all that is apart from there is unchanged
 pub Assigns-frame : (n : NodeMap) (tokens : List Text) (v m : NodeMap) (old : Option NodeMap) (r : Assigns n tokens v m old) (xs : List Text) (q : Path) → Names n xs q → (GoesThrough r.path q → ⊥) → (GoesThrough q r.path → ⊥) → Names m xs q × (sub m q ≡ sub n q)
-Assigns-frame n tokens v m old r xs q h a b = subst (λ (k : NodeMap). Names k xs q × (sub k q ≡ sub n q)) (sym r.made) (made_frame n r.path (grown r.left v) xs q h a b)
+Assigns-frame n tokens v m old r xs q h a b = subst (λ (k : NodeMap). Names k xs q × (sub k q ≡ sub n q)) (sym r.made) (made_frame n r.path (expanded r.left v) xs q h a b)
 
 -- of finite maps it makes a finite map
 pub Assigns-finite : (n : NodeMap) (tokens : List Text) (v m : NodeMap) (old : Option NodeMap) → IsListed n → IsListed v → Assigns n tokens v m old → IsListed m
-Assigns-finite n tokens v m old a b r = subst IsListed (sym r.made) (IsListed-put (with_room n r.path) r.path (grown r.left v) (IsListed-with_room n r.path a) (IsListed-grown r.left v b))
+Assigns-finite n tokens v m old a b r = subst IsListed (sym r.made) (IsListed-put (with_room n r.path) r.path (expanded r.left v) (IsListed-with_room n r.path a) (IsListed-expanded r.left v b))
 
 -- of trees it makes a tree
 IsTree-under : (n : NodeMap) (front : List Text) (w : Path) (s : Step) (v : NodeMap) → IsTree n → Names n front w → CanHave (n w) s → IsTree v → IsTree (made n (w ++ s ∷ []) v)
@@ -246,15 +246,15 @@ IsTree-under n front w s v tree h can new =
     let inner = IsTree-made (sub n w) s v (IsTree-sub n w tree here) (subst (λ (o : Option Label). CanHave o s) (sym (sub-root n w)) can) new in
     subst IsTree (sym (made_below n front w (s ∷ []) v h)) (IsTree-put n w (made (sub n w) (s ∷ []) v) tree here inner)
 
-IsTree-from : (n : NodeMap) (front : List Text) (w : Path) (rest : List Text) (p : Path) (left : List Text) (v : NodeMap) (l : Option Label) → IsTree n → IsTree v → Names n front w → n w ≡ l → LandsFrom w l rest p left → IsTree (made n p (grown left v))
+IsTree-from : (n : NodeMap) (front : List Text) (w : Path) (rest : List Text) (p : Path) (left : List Text) (v : NodeMap) (l : Option Label) → IsTree n → IsTree v → Names n front w → n w ≡ l → LandsFrom w l rest p left → IsTree (made n p (expanded left v))
 unfolding CanHave
-IsTree-from n front w [] p left v l tree new h e r = subst (λ (u : Path). IsTree (made n u (grown left v))) (sym r.0) (subst IsTree (sym (made_named n front w (grown left v) h)) (IsTree-put n w (grown left v) tree (Names-here n front w h) (IsTree-grown left v new)))
+IsTree-from n front w [] p left v l tree new h e r = subst (λ (u : Path). IsTree (made n u (expanded left v))) (sym r.0) (subst IsTree (sym (made_named n front w (expanded left v) h)) (IsTree-put n w (expanded left v) tree (Names-here n front w h) (IsTree-expanded left v new)))
 IsTree-from n front w (x ∷ rest) p left v None tree new h e r = absurd r
-IsTree-from n front w (x ∷ rest) p left v (Some an_object) tree new h e r = subst (λ (u : Path). IsTree (made n u (grown left v))) (sym r.0) (IsTree-under n front w (key x) (grown left v) tree h (subst (λ (o : Option Label). CanHave o (key x)) (sym e) tt) (IsTree-grown left v new))
+IsTree-from n front w (x ∷ rest) p left v (Some an_object) tree new h e r = subst (λ (u : Path). IsTree (made n u (expanded left v))) (sym r.0) (IsTree-under n front w (key x) (expanded left v) tree h (subst (λ (o : Option Label). CanHave o (key x)) (sym e) tt) (IsTree-expanded left v new))
 IsTree-from n front w (x ∷ rest) p left v (Some (an_array len)) tree new h e r =
     let near : len ≤ len = omega arith in
-    subst (λ (u : Path). IsTree (made n u (grown left v))) (sym r.1) (IsTree-under n front w (place len) (grown left v) tree h (subst (λ (o : Option Label). CanHave o (place len)) (sym e) near) (IsTree-grown left v new))
-IsTree-from n front w (x ∷ rest) p left v (Some (a_leaf a)) tree new h e r = subst (λ (u : Path). IsTree (made n u (grown left v))) (sym r.0) (subst IsTree (sym (made_named n front w (grown left v) h)) (IsTree-put n w (grown left v) tree (Names-here n front w h) (IsTree-grown left v new)))
+    subst (λ (u : Path). IsTree (made n u (expanded left v))) (sym r.1) (IsTree-under n front w (place len) (expanded left v) tree h (subst (λ (o : Option Label). CanHave o (place len)) (sym e) near) (IsTree-expanded left v new))
+IsTree-from n front w (x ∷ rest) p left v (Some (a_leaf a)) tree new h e r = subst (λ (u : Path). IsTree (made n u (expanded left v))) (sym r.0) (subst IsTree (sym (made_named n front w (expanded left v) h)) (IsTree-put n w (expanded left v) tree (Names-here n front w h) (IsTree-expanded left v new)))
 
 pub Assigns-tree : (n : NodeMap) (tokens : List Text) (v m : NodeMap) (old : Option NodeMap) → IsTree n → IsTree v → Assigns n tokens v m old → IsTree m
 Assigns-tree n tokens v m old tree new r = subst IsTree (sym r.made) (IsTree-from n r.lands.front r.lands.path r.lands.rest r.path r.left v (n r.lands.path) tree new r.lands.stops.named refl r.lands.lands)
@@ -299,22 +299,22 @@ Assigns_named n tokens v w h = record {
 }
 
 -- at a scalar
-pub Assigns_leaf : (n : NodeMap) (tokens front : List Text) (x : Text) (rest : List Text) (v : NodeMap) (w : Path) (a : Scalar) → StopsAt n tokens front w (x ∷ rest) → n w ≡ Some (a_leaf a) → Assigns n tokens v (put n w (grown (x ∷ rest) v)) (Some (sub n w))
+pub Assigns_leaf : (n : NodeMap) (tokens front : List Text) (x : Text) (rest : List Text) (v : NodeMap) (w : Path) (a : Scalar) → StopsAt n tokens front w (x ∷ rest) → n w ≡ Some (a_leaf a) → Assigns n tokens v (put n w (expanded (x ∷ rest) v)) (Some (sub n w))
 Assigns_leaf n tokens front x rest v w a s e = record {
   path = w;
   left = x ∷ rest;
   lands = Lands_leaf n tokens front x rest w a s e;
-  made = sym (made_named n front w (grown (x ∷ rest) v) s.named);
+  made = sym (made_named n front w (expanded (x ∷ rest) v) s.named);
   replaced = sym (found_at-some n w (some_label (n w) (a_leaf a) e));
 }
 
 -- at a new member of an object
-pub Assigns_object : (n : NodeMap) (tokens front : List Text) (x : Text) (rest : List Text) (v : NodeMap) (w : Path) → StopsAt n tokens front w (x ∷ rest) → n w ≡ Some an_object → Assigns n tokens v (put n (w ++ key x ∷ []) (grown rest v)) None
+pub Assigns_object : (n : NodeMap) (tokens front : List Text) (x : Text) (rest : List Text) (v : NodeMap) (w : Path) → StopsAt n tokens front w (x ∷ rest) → n w ≡ Some an_object → Assigns n tokens v (put n (w ++ key x ∷ []) (expanded rest v)) None
 Assigns_object n tokens front x rest v w s e = record {
   path = w ++ key x ∷ [];
   left = rest;
   lands = Lands_object n tokens front x rest w s e;
-  made = sym (made_key n front w x (grown rest v) s.named);
+  made = sym (made_key n front w x (expanded rest v) s.named);
   replaced = sym (found_at-none n (w ++ key x ∷ []) (⊎_elim
       (λ (i : IsSome (n (w ++ key x ∷ []))). absurd (stops-lacks n tokens front x rest w s (key x) (subst (λ (o : Option Label). NamesStep o x (key x)) (sym e) refl) i))
       (λ (f : n (w ++ key x ∷ []) ≡ None). f)
@@ -322,7 +322,7 @@ Assigns_object n tokens front x rest v w s e = record {
 }
 
 -- after the elements of an array
-pub Assigns_end : (n : NodeMap) (tokens front : List Text) (x : Text) (rest : List Text) (v : NodeMap) (w : Path) (len : ℕ) → IsTree n → StopsAt n tokens front w (x ∷ rest) → n w ≡ Some (an_array len) → is_append_index len x ≡ true → Assigns n tokens v (made n (w ++ place len ∷ []) (grown rest v)) None
+pub Assigns_end : (n : NodeMap) (tokens front : List Text) (x : Text) (rest : List Text) (v : NodeMap) (w : Path) (len : ℕ) → IsTree n → StopsAt n tokens front w (x ∷ rest) → n w ≡ Some (an_array len) → is_append_index len x ≡ true → Assigns n tokens v (made n (w ++ place len ∷ []) (expanded rest v)) None
 Assigns_end n tokens front x rest v w len tree s e h = record {
   path = w ++ place len ∷ [];
   left = rest;
@@ -338,12 +338,12 @@ Assigns_end n tokens front x rest v w len tree s e h = record {
     past h = omega arith
 
 -- the same, seen in the map below the array
-pub Assigns_end_below : (n : NodeMap) (tokens front : List Text) (x : Text) (rest : List Text) (v : NodeMap) (w : Path) (len : ℕ) → IsTree n → StopsAt n tokens front w (x ∷ rest) → n w ≡ Some (an_array len) → is_append_index len x ≡ true → Assigns n tokens v (put n w (made (sub n w) (place len ∷ []) (grown rest v))) None
-Assigns_end_below n tokens front x rest v w len tree s e h = subst (λ (m : NodeMap). Assigns n tokens v m None) (made_below n front w (place len ∷ []) (grown rest v) s.named) (Assigns_end n tokens front x rest v w len tree s e h)
+pub Assigns_end_below : (n : NodeMap) (tokens front : List Text) (x : Text) (rest : List Text) (v : NodeMap) (w : Path) (len : ℕ) → IsTree n → StopsAt n tokens front w (x ∷ rest) → n w ≡ Some (an_array len) → is_append_index len x ≡ true → Assigns n tokens v (put n w (made (sub n w) (place len ∷ []) (expanded rest v))) None
+Assigns_end_below n tokens front x rest v w len tree s e h = subst (λ (m : NodeMap). Assigns n tokens v m None) (made_below n front w (place len ∷ []) (expanded rest v) s.named) (Assigns_end n tokens front x rest v w len tree s e h)
 
 -- and in the map below the object
-pub Assigns_object_below : (n : NodeMap) (tokens front : List Text) (x : Text) (rest : List Text) (v : NodeMap) (w : Path) → StopsAt n tokens front w (x ∷ rest) → n w ≡ Some an_object → Assigns n tokens v (put n w (put (sub n w) (key x ∷ []) (grown rest v))) None
-Assigns_object_below n tokens front x rest v w s e = subst (λ (m : NodeMap). Assigns n tokens v m None) (put_below n w (key x ∷ []) (grown rest v)) (Assigns_object n tokens front x rest v w s e)
+pub Assigns_object_below : (n : NodeMap) (tokens front : List Text) (x : Text) (rest : List Text) (v : NodeMap) (w : Path) → StopsAt n tokens front w (x ∷ rest) → n w ≡ Some an_object → Assigns n tokens v (put n w (put (sub n w) (key x ∷ []) (expanded rest v))) None
+Assigns_object_below n tokens front x rest v w s e = subst (λ (m : NodeMap). Assigns n tokens v m None) (put_below n w (key x ∷ []) (expanded rest v)) (Assigns_object n tokens front x rest v w s e)
 
 -- what is assigned is what is assigned so
 Assigns-iff : (n : NodeMap) (tokens : List Text) (v k : NodeMap) (was : Option NodeMap) → Assigns n tokens v k was → (m : NodeMap) (old : Option NodeMap) → Assigns n tokens v m old ↔ ((m ≡ k) × (old ≡ was))
@@ -355,14 +355,14 @@ Assigns-iff n tokens v k was a m old = (
 pub Assigns-named : (n : NodeMap) (tokens : List Text) (v m : NodeMap) (old : Option NodeMap) (w : Path) → Names n tokens w → Assigns n tokens v m old ↔ ((m ≡ put n w v) × (old ≡ Some (sub n w)))
 Assigns-named n tokens v m old w h = Assigns-iff n tokens v (put n w v) (Some (sub n w)) (Assigns_named n tokens v w h) m old
 
-pub Assigns-leaf : (n : NodeMap) (tokens front : List Text) (x : Text) (rest : List Text) (v m : NodeMap) (old : Option NodeMap) (w : Path) (a : Scalar) → StopsAt n tokens front w (x ∷ rest) → n w ≡ Some (a_leaf a) → Assigns n tokens v m old ↔ ((m ≡ put n w (grown (x ∷ rest) v)) × (old ≡ Some (sub n w)))
-Assigns-leaf n tokens front x rest v m old w a s e = Assigns-iff n tokens v (put n w (grown (x ∷ rest) v)) (Some (sub n w)) (Assigns_leaf n tokens front x rest v w a s e) m old
+pub Assigns-leaf : (n : NodeMap) (tokens front : List Text) (x : Text) (rest : List Text) (v m : NodeMap) (old : Option NodeMap) (w : Path) (a : Scalar) → StopsAt n tokens front w (x ∷ rest) → n w ≡ Some (a_leaf a) → Assigns n tokens v m old ↔ ((m ≡ put n w (expanded (x ∷ rest) v)) × (old ≡ Some (sub n w)))
+Assigns-leaf n tokens front x rest v m old w a s e = Assigns-iff n tokens v (put n w (expanded (x ∷ rest) v)) (Some (sub n w)) (Assigns_leaf n tokens front x rest v w a s e) m old
 
-pub Assigns-object : (n : NodeMap) (tokens front : List Text) (x : Text) (rest : List Text) (v m : NodeMap) (old : Option NodeMap) (w : Path) → StopsAt n tokens front w (x ∷ rest) → n w ≡ Some an_object → Assigns n tokens v m old ↔ ((m ≡ put n (w ++ key x ∷ []) (grown rest v)) × (old ≡ None))
-Assigns-object n tokens front x rest v m old w s e = Assigns-iff n tokens v (put n (w ++ key x ∷ []) (grown rest v)) None (Assigns_object n tokens front x rest v w s e) m old
+pub Assigns-object : (n : NodeMap) (tokens front : List Text) (x : Text) (rest : List Text) (v m : NodeMap) (old : Option NodeMap) (w : Path) → StopsAt n tokens front w (x ∷ rest) → n w ≡ Some an_object → Assigns n tokens v m old ↔ ((m ≡ put n (w ++ key x ∷ []) (expanded rest v)) × (old ≡ None))
+Assigns-object n tokens front x rest v m old w s e = Assigns-iff n tokens v (put n (w ++ key x ∷ []) (expanded rest v)) None (Assigns_object n tokens front x rest v w s e) m old
 
-pub Assigns-end : (n : NodeMap) (tokens front : List Text) (x : Text) (rest : List Text) (v m : NodeMap) (old : Option NodeMap) (w : Path) (len : ℕ) → IsTree n → StopsAt n tokens front w (x ∷ rest) → n w ≡ Some (an_array len) → is_append_index len x ≡ true → Assigns n tokens v m old ↔ ((m ≡ put (with_room n (w ++ place len ∷ [])) (w ++ place len ∷ []) (grown rest v)) × (old ≡ None))
-Assigns-end n tokens front x rest v m old w len tree s e h = Assigns-iff n tokens v (made n (w ++ place len ∷ []) (grown rest v)) None (Assigns_end n tokens front x rest v w len tree s e h) m old
+pub Assigns-end : (n : NodeMap) (tokens front : List Text) (x : Text) (rest : List Text) (v m : NodeMap) (old : Option NodeMap) (w : Path) (len : ℕ) → IsTree n → StopsAt n tokens front w (x ∷ rest) → n w ≡ Some (an_array len) → is_append_index len x ≡ true → Assigns n tokens v m old ↔ ((m ≡ put (with_room n (w ++ place len ∷ [])) (w ++ place len ∷ []) (expanded rest v)) × (old ≡ None))
+Assigns-end n tokens front x rest v m old w len tree s e h = Assigns-iff n tokens v (made n (w ++ place len ∷ []) (expanded rest v)) None (Assigns_end n tokens front x rest v w len tree s e h) m old
 
 -- labels on the path
 
@@ -382,13 +382,13 @@ long_enough_child (Some (a_leaf v)) s u h = absurd h
 
 -- a node on the path keeps its label, if it may have the next step
 pub Assigns-above : (n : NodeMap) (tokens : List Text) (v m : NodeMap) (old : Option NodeMap) (r : Assigns n tokens v m old) (w : Path) (s : Step) (u : Path) → r.path ≡ w ++ s ∷ u → MayHave (n w) s → m w ≡ n w
-Assigns-above n tokens v m old r w s u e h = ap (λ (k : NodeMap). k w) (r.made ∙ ap (λ (p : Path). made n p (grown r.left v)) e) ∙ made_above n w s u (grown r.left v) ∙ long_enough_child (n w) s u h
+Assigns-above n tokens v m old r w s u e h = ap (λ (k : NodeMap). k w) (r.made ∙ ap (λ (p : Path). made n p (expanded r.left v)) e) ∙ made_above n w s u (expanded r.left v) ∙ long_enough_child (n w) s u h
 
 -- an array has one more element, if the value lands after its last
 pub Assigns-longer : (n : NodeMap) (tokens : List Text) (v m : NodeMap) (old : Option NodeMap) (r : Assigns n tokens v m old) (w : Path) (len : ℕ) → r.path ≡ w ++ place len ∷ [] → n w ≡ Some (an_array len) → m w ≡ Some (an_array (suc len))
 Assigns-longer n tokens v m old r w len e l =
     let more : max len (suc len) ≡ suc len = omega arith in
-    ap (λ (k : NodeMap). k w) (r.made ∙ ap (λ (p : Path). made n p (grown r.left v)) e) ∙ made_above n w (place len) [] (grown r.left v) ∙ ap (long_enough (Some (place len ∷ []))) l ∙ ap (λ (k : ℕ). Some (an_array k)) more
+    ap (λ (k : NodeMap). k w) (r.made ∙ ap (λ (p : Path). made n p (expanded r.left v)) e) ∙ made_above n w (place len) [] (expanded r.left v) ∙ ap (long_enough (Some (place len ∷ []))) l ∙ ap (λ (k : ℕ). Some (an_array k)) more
 
 -- finding what was assigned
 
@@ -412,27 +412,27 @@ Finds-child n x xs s u v h f = record {
 names_end : (len : ℕ) (x : Text) → is_append_index len x ≡ true → x ≢ codes "-" → NamesStep (long_enough (Some (place len ∷ [])) (Some (an_array len))) x (place len)
 names_end len x h dash = (omega arith, ⊎_elim (λ (e : x ≡ codes "-"). absurd (dash e)) (λ (e : x ≡ dec len). e) (means_end-cases len x h))
 
-Finds-from : (n : NodeMap) (front : List Text) (w : Path) (rest : List Text) (p : Path) (left : List Text) (v : NodeMap) (l : Option Label) → IsSome (v []) → LacksDash rest → Names n front w → n w ≡ l → LandsFrom w l rest p left → Finds (made n p (grown left v)) (front ++ rest) v
-Finds-from n front w [] p left v l i dash h e r = subst (λ (ts : List Text). Finds (made n p (grown ts v)) (front ++ []) v) (sym r.1) (subst (λ (u : Path). Finds (made n u v) (front ++ []) v) (sym r.0) (subst (λ (k : NodeMap). Finds k (front ++ []) v) (sym (made_named n front w v h)) (Finds-below n front [] w v v h i (record { path = []; named = i; below = refl }))))
+Finds-from : (n : NodeMap) (front : List Text) (w : Path) (rest : List Text) (p : Path) (left : List Text) (v : NodeMap) (l : Option Label) → IsSome (v []) → LacksDash rest → Names n front w → n w ≡ l → LandsFrom w l rest p left → Finds (made n p (expanded left v)) (front ++ rest) v
+Finds-from n front w [] p left v l i dash h e r = subst (λ (ts : List Text). Finds (made n p (expanded ts v)) (front ++ []) v) (sym r.1) (subst (λ (u : Path). Finds (made n u v) (front ++ []) v) (sym r.0) (subst (λ (k : NodeMap). Finds k (front ++ []) v) (sym (made_named n front w v h)) (Finds-below n front [] w v v h i (record { path = []; named = i; below = refl }))))
 Finds-from n front w (x ∷ rest) p left v None i dash h e r = absurd r
 Finds-from n front w (x ∷ rest) p left v (Some an_object) i dash h e r =
-    let inner = Finds-grown rest v (λ xs ys f. dash (x ∷ xs) ys (ap (λ (ts : List Text). x ∷ ts) f)) i in
+    let inner = Finds-expanded rest v (λ xs ys f. dash (x ∷ xs) ys (ap (λ (ts : List Text). x ∷ ts) f)) i in
     let label : sub n w [] ≡ Some an_object = sub-root n w ∙ e in
-    let new = Finds-child (sub n w) x rest (key x) (grown rest v) v (subst (λ (o : Option Label). NamesStep (long_enough (Some (key x ∷ [])) o) x (key x)) (sym label) refl) inner in
-    let all = Finds-below n front (x ∷ rest) w (made (sub n w) (key x ∷ []) (grown rest v)) v h (some-room (sub n w []) (Some (key x ∷ [])) (some_label (sub n w []) an_object label)) new in
-    subst (λ (ts : List Text). Finds (made n p (grown ts v)) (front ++ x ∷ rest) v) (sym r.1) (subst (λ (u : Path). Finds (made n u (grown rest v)) (front ++ x ∷ rest) v) (sym r.0) (subst (λ (k : NodeMap). Finds k (front ++ x ∷ rest) v) (sym (made_below n front w (key x ∷ []) (grown rest v) h)) all))
+    let new = Finds-child (sub n w) x rest (key x) (expanded rest v) v (subst (λ (o : Option Label). NamesStep (long_enough (Some (key x ∷ [])) o) x (key x)) (sym label) refl) inner in
+    let all = Finds-below n front (x ∷ rest) w (made (sub n w) (key x ∷ []) (expanded rest v)) v h (some-room (sub n w []) (Some (key x ∷ [])) (some_label (sub n w []) an_object label)) new in
+    subst (λ (ts : List Text). Finds (made n p (expanded ts v)) (front ++ x ∷ rest) v) (sym r.1) (subst (λ (u : Path). Finds (made n u (expanded rest v)) (front ++ x ∷ rest) v) (sym r.0) (subst (λ (k : NodeMap). Finds k (front ++ x ∷ rest) v) (sym (made_below n front w (key x ∷ []) (expanded rest v) h)) all))
 Finds-from n front w (x ∷ rest) p left v (Some (an_array len)) i dash h e r =
-    let inner = Finds-grown rest v (λ xs ys f. dash (x ∷ xs) ys (ap (λ (ts : List Text). x ∷ ts) f)) i in
+    let inner = Finds-expanded rest v (λ xs ys f. dash (x ∷ xs) ys (ap (λ (ts : List Text). x ∷ ts) f)) i in
     let label : sub n w [] ≡ Some (an_array len) = sub-root n w ∙ e in
     let step = names_end len x r.0 (λ f. dash [] rest (ap (λ (t : Text). t ∷ rest) f)) in
-    let new = Finds-child (sub n w) x rest (place len) (grown rest v) v (subst (λ (o : Option Label). NamesStep (long_enough (Some (place len ∷ [])) o) x (place len)) (sym label) step) inner in
-    let all = Finds-below n front (x ∷ rest) w (made (sub n w) (place len ∷ []) (grown rest v)) v h (some-room (sub n w []) (Some (place len ∷ [])) (some_label (sub n w []) (an_array len) label)) new in
-    subst (λ (ts : List Text). Finds (made n p (grown ts v)) (front ++ x ∷ rest) v) (sym r.2) (subst (λ (u : Path). Finds (made n u (grown rest v)) (front ++ x ∷ rest) v) (sym r.1) (subst (λ (k : NodeMap). Finds k (front ++ x ∷ rest) v) (sym (made_below n front w (place len ∷ []) (grown rest v) h)) all))
+    let new = Finds-child (sub n w) x rest (place len) (expanded rest v) v (subst (λ (o : Option Label). NamesStep (long_enough (Some (place len ∷ [])) o) x (place len)) (sym label) step) inner in
+    let all = Finds-below n front (x ∷ rest) w (made (sub n w) (place len ∷ []) (expanded rest v)) v h (some-room (sub n w []) (Some (place len ∷ [])) (some_label (sub n w []) (an_array len) label)) new in
+    subst (λ (ts : List Text). Finds (made n p (expanded ts v)) (front ++ x ∷ rest) v) (sym r.2) (subst (λ (u : Path). Finds (made n u (expanded rest v)) (front ++ x ∷ rest) v) (sym r.1) (subst (λ (k : NodeMap). Finds k (front ++ x ∷ rest) v) (sym (made_below n front w (place len ∷ []) (expanded rest v) h)) all))
 Finds-from n front w (x ∷ rest) p left v (Some (a_leaf a)) i dash h e r =
-    let inner = Finds-grown (x ∷ rest) v dash i in
-    let root : IsSome (grown (x ∷ rest) v []) = Names-root (grown (x ∷ rest) v) (x ∷ rest) inner.path inner.named in
-    let all = Finds-below n front (x ∷ rest) w (grown (x ∷ rest) v) v h root inner in
-    subst (λ (ts : List Text). Finds (made n p (grown ts v)) (front ++ x ∷ rest) v) (sym r.1) (subst (λ (u : Path). Finds (made n u (grown (x ∷ rest) v)) (front ++ x ∷ rest) v) (sym r.0) (subst (λ (k : NodeMap). Finds k (front ++ x ∷ rest) v) (sym (made_named n front w (grown (x ∷ rest) v) h)) all))
+    let inner = Finds-expanded (x ∷ rest) v dash i in
+    let root : IsSome (expanded (x ∷ rest) v []) = Names-root (expanded (x ∷ rest) v) (x ∷ rest) inner.path inner.named in
+    let all = Finds-below n front (x ∷ rest) w (expanded (x ∷ rest) v) v h root inner in
+    subst (λ (ts : List Text). Finds (made n p (expanded ts v)) (front ++ x ∷ rest) v) (sym r.1) (subst (λ (u : Path). Finds (made n u (expanded (x ∷ rest) v)) (front ++ x ∷ rest) v) (sym r.0) (subst (λ (k : NodeMap). Finds k (front ++ x ∷ rest) v) (sym (made_named n front w (expanded (x ∷ rest) v) h)) all))
 
 -- tokens without `-` find the value that was assigned at them
 pub Assigns-Finds : (n : NodeMap) (tokens : List Text) (v m : NodeMap) (old : Option NodeMap) → Assigns n tokens v m old → LacksDash tokens → IsSome (v []) → Finds m tokens v
@@ -440,4 +440,4 @@ Assigns-Finds n tokens v m old r dash i =
     let s = r.lands.stops in
     let left : LacksDash r.lands.rest = λ xs ys e. dash (r.lands.front ++ xs) ys (s.split ∙ ap (λ (ts : List Text). r.lands.front ++ ts) e ∙ sym (append_assoc r.lands.front xs (codes "-" ∷ ys))) in
     let all = Finds-from n r.lands.front r.lands.path r.lands.rest r.path r.left v (n r.lands.path) i left s.named refl r.lands.lands in
-    subst (λ (k : NodeMap). Finds k tokens v) (sym r.made) (subst (λ (ts : List Text). Finds (made n r.path (grown r.left v)) ts v) (sym s.split) all)
+    subst (λ (k : NodeMap). Finds k tokens v) (sym r.made) (subst (λ (ts : List Text). Finds (made n r.path (expanded r.left v)) ts v) (sym s.split) all)

@@ -6,7 +6,7 @@ use Rattle.std.proofs.lemmas.Slice.Eq.{bytes_eq-Decides}
 use Rattle.jsonptr_grammar.specs.Text.{Text, dec}
 use Rattle.jsonptr_tree.specs.Node.{key, place, Path, Scalar, Label, an_object, an_array, a_leaf, NodeMap, Names, IsTree}
 use Rattle.jsonptr_tree.specs.Following.{StopsAt, LacksStep, StopsBefore}
-use Rattle.jsonptr_tree.specs.Growing.{is_append_index}
+use Rattle.jsonptr_tree.specs.Expansion.{is_append_index}
 use Rattle.jsonptr_tree.specs.Landing.{LandsFrom, Lands, LandsNowhere}
 use Rattle.jsonptr_tree.proofs.NodeLemmas.{dec_above}
 use Rattle.jsonptr_tree.proofs.FollowingLemmas.{StopsAt_one, lacks_at_array, lacks_past_array, StopsBefore-array, follows}

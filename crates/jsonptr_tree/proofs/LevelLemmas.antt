@@ -11,7 +11,7 @@ use Rattle.jsonptr_grammar.specs.Text.{Text}
 use Rattle.jsonptr_tree.specs.Node.{Step, key, place, Path, Label, an_object, an_array, NodeMap}
 use Rattle.jsonptr_tree.specs.Content.{Content, array, object, Items, no_items, item, Members, no_members, member, items_len, get_item, get_member, label_of, content_at, map_of}
 use Rattle.jsonptr_tree.specs.Put.{same_place, same_step, rest_after, label_or, put}
-use Rattle.jsonptr_tree.specs.Growing.{with_one}
+use Rattle.jsonptr_tree.specs.Expansion.{with_one}
 use Rattle.jsonptr_tree.specs.Assigning.{long_enough, with_room}
 use Rattle.jsonptr_tree.specs.Removing.{place_before, without_step}
 use Rattle.jsonptr_tree.proofs.AssigningLemmas.{made}

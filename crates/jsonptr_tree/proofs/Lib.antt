@@ -5,7 +5,7 @@ pub mod PutLemmas
 pub mod ListedLemmas
 pub mod TreeLemmas
 pub mod LandingLemmas
-pub mod GrowingLemmas
+pub mod ExpansionLemmas
 pub mod AssigningLemmas
 pub mod RemovingLemmas
 pub mod UndoingLemmas

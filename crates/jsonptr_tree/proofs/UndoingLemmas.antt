@@ -6,7 +6,7 @@ use Rattle.jsonptr_grammar.specs.Text.{Text, dec}
 use Rattle.jsonptr_tree.specs.Node.{Step, key, place, Path, Scalar, Label, an_object, an_array, a_leaf, NodeMap, sub, NamesStep, Names, MayHave, IsTree}
 use Rattle.jsonptr_tree.specs.Following.{StopsBefore}
 use Rattle.jsonptr_tree.specs.Put.{same_step, put}
-use Rattle.jsonptr_tree.specs.Growing.{grown}
+use Rattle.jsonptr_tree.specs.Expansion.{expanded}
 use Rattle.jsonptr_tree.specs.Landing.{LandsFrom, Lands}
 use Rattle.jsonptr_tree.specs.Assigning.{long_enough, with_room, found_at, Assigns}
 use Rattle.jsonptr_tree.specs.Removing.{one_less, place_before, without_key, without_place, without_step, Deletes}
@@ -14,7 +14,7 @@ use Rattle.jsonptr_tree.specs.PrivateUndoing.{NamesLanding}
 use Rattle.jsonptr_tree.proofs.NodeLemmas.{sub-root, Names-here, Names-append, Names_one_list, IsTree-above, IsTree-sub, IsTree-named}
 use Rattle.jsonptr_tree.proofs.FollowingLemmas.{StopsAt_one, cases_some}
 use Rattle.jsonptr_tree.proofs.PutLemmas.{cases_same, put_at, sub-put, put-sub, put-put, same_by_step, Names-put}
-use Rattle.jsonptr_tree.proofs.GrowingLemmas.{IsTree-grown}
+use Rattle.jsonptr_tree.proofs.ExpansionLemmas.{IsTree-expanded}
 use Rattle.jsonptr_tree.proofs.LandingLemmas.{means_end-cases, Lands_one, Lands_named}
 use Rattle.jsonptr_tree.proofs.AssigningLemmas.{made, made-step, made-other_step, made_below, made_named, found_at-some, found_at-none, some-room, Assigns-tree}
 use Rattle.jsonptr_tree.proofs.RemovingLemmas.{without_key-same, without_key-other, place_before-below, place_before-from}
@@ -56,7 +56,7 @@ put_back n tokens v m old tree r =
     let was = some_found n r.path old r.replaced in
     let named = IsTree-named n tree r.path was.0 in
     ap (λ (k : NodeMap). put k r.path old) r.made
-    ∙ put-put (with_room n r.path) r.path (grown r.left v) old
+    ∙ put-put (with_room n r.path) r.path (expanded r.left v) old
     ∙ made_named n named.0 r.path old named.1
     ∙ ap (put n r.path) was.1
     ∙ put-sub n r.path
@@ -142,7 +142,7 @@ left_from n front w (x ∷ rest) p left (Some (a_leaf a)) g tree h e r none land
 -- deleted where it is new
 pub deleted_again : (n : NodeMap) (tokens : List Text) (v m : NodeMap) → IsTree n → (r : Assigns n tokens v m None) → (landing : List Text) (blank k : NodeMap) → Names m landing r.path → Deletes m landing blank k → k ≡ n
 deleted_again n tokens v m tree r landing blank k there d =
-    left_from n r.lands.front r.lands.path r.lands.rest r.path r.left (n r.lands.path) (grown r.left v) tree r.lands.stops.named refl r.lands.lands (none_found n r.path r.replaced) landing blank k
+    left_from n r.lands.front r.lands.path r.lands.rest r.path r.left (n r.lands.path) (expanded r.left v) tree r.lands.stops.named refl r.lands.lands (none_found n r.path r.replaced) landing blank k
     (subst (λ (q : NodeMap). Names q landing r.path) r.made there)
     (subst (λ (q : NodeMap). Deletes q landing blank k) r.made d)
 
@@ -151,7 +151,7 @@ deleted_again n tokens v m tree r landing blank k there d =
 -- one list of them does
 pub landing_named : (n : NodeMap) (tokens : List Text) (v m : NodeMap) (old : Option NodeMap) → IsTree n → IsTree v → (r : Assigns n tokens v m old) → (landing : List Text) × Names m landing r.path × ((others : List Text) → Names m others r.path → others ≡ landing)
 landing_named n tokens v m old tree new r =
-    let root : IsSome (m r.path) = subst (λ (q : NodeMap). IsSome (q r.path)) (sym r.made) (subst (λ (o : Option Label). IsSome o) (sym (put_at (with_room n r.path) r.path (grown r.left v))) (IsTree-grown r.left v new).root) in
+    let root : IsSome (m r.path) = subst (λ (q : NodeMap). IsSome (q r.path)) (sym r.made) (subst (λ (o : Option Label). IsSome o) (sym (put_at (with_room n r.path) r.path (expanded r.left v))) (IsTree-expanded r.left v new).root) in
     let named = IsTree-named m (Assigns-tree n tokens v m old tree new r) r.path root in
     (named.0, named.1, λ others h. Names_one_list m others named.0 r.path h named.1)
 
@@ -159,7 +159,7 @@ landing_named n tokens v m old tree new r =
 
 -- tokens that name where a value lands name it in what an assignment makes
 pub landing_names : (n : NodeMap) (tokens landing : List Text) (v m : NodeMap) (old : Option NodeMap) → NamesLanding n tokens landing → IsTree v → (r : Assigns n tokens v m old) → Names m landing r.path
-landing_names n tokens landing v m old names new r = subst (λ (q : NodeMap). Names q landing r.path) (sym r.made) (names r.path r.left r.lands (grown r.left v) (IsTree-grown r.left v new).root)
+landing_names n tokens landing v m old names new r = subst (λ (q : NodeMap). Names q landing r.path) (sym r.made) (names r.path r.left r.lands (expanded r.left v) (IsTree-expanded r.left v new).root)
 
 -- tokens that name a node name it
 named_anew : (n : NodeMap) (xs : List Text) (w : Path) → Names n xs w → (u : NodeMap) → IsSome (u []) → Names (made n w u) xs w

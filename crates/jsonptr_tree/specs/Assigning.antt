@@ -3,7 +3,7 @@ use Rattle.std.specs.Prelude.{◌≡◌, suc, max, List, ◌∷◌, Option, Some
 use Rattle.jsonptr_grammar.specs.Text.{Text}
 use Rattle.jsonptr_tree.specs.Node.{place, Path, Label, an_array, NodeMap, sub}
 use Rattle.jsonptr_tree.specs.Put.{put, rest_after}
-use Rattle.jsonptr_tree.specs.Growing.{grown}
+use Rattle.jsonptr_tree.specs.Expansion.{expanded}
 use Rattle.jsonptr_tree.specs.Landing.{Lands}
 
 -- `long_enough rest l` is the label `l` of a node at which a path continues with `rest`; an array
@@ -28,5 +28,5 @@ pub record Assigns (n : NodeMap) (tokens : List Text) (v m : NodeMap)
   pub path : Path
   pub left : List Text
   pub lands : Lands n tokens path left
-  pub made : m ≡ put (with_room n path) path (grown left v)
+  pub made : m ≡ put (with_room n path) path (expanded left v)
   pub replaced : old ≡ found_at n path

@@ -3,7 +3,7 @@ use Rattle.std.specs.Prelude.{◌≡◌, ℕ, ◌≤◌, ◌≢◌, List, [], �
 use Rattle.jsonptr_grammar.specs.Text.{Text, dec}
 use Rattle.jsonptr_tree.specs.Node.{key, place, Path, Label, an_object, an_array, a_leaf, NodeMap}
 use Rattle.jsonptr_tree.specs.Following.{StopsAt, StopsBefore}
-use Rattle.jsonptr_tree.specs.Growing.{is_append_index}
+use Rattle.jsonptr_tree.specs.Expansion.{is_append_index}
 
 -- `LandsFrom w l rest p left`: if following stops at the path `w` with the label `l`, before the
 -- tokens `rest`, then the value lands at the path `p`, expanded by `left`. Without `rest`, that is

@@ -1,5 +1,5 @@
 -- Documents as maps from paths to nodes, following tokens in them, and writing where the tokens
--- lead (RFC 6901, section 4)
+-- lead (RFC 6901, section 4).
 pub mod Node
 pub mod Following
 pub mod Content
@@ -7,7 +7,7 @@ pub mod Json
 pub mod TomlValue
 pub mod Documents
 pub mod Put
-pub mod Growing
+pub mod Expansion
 pub mod Landing
 pub mod Assigning
 pub mod Removing

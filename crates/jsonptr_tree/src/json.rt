@@ -15,7 +15,7 @@ ghost use Rattle.jsonptr_grammar.specs.Text.{Text};
 ghost use Rattle.jsonptr_tree.specs.Node.{key, place, Path, an_object, an_array, a_leaf, of_json, sub, IsTree, IsListed};
 ghost use Rattle.jsonptr_tree.specs.Following.{Finds};
 ghost use Rattle.jsonptr_tree.specs.Put.{put};
-ghost use Rattle.jsonptr_tree.specs.Growing.{with_one};
+ghost use Rattle.jsonptr_tree.specs.Expansion.{with_one};
 ghost use Rattle.jsonptr_tree.specs.Assigning.{with_room};
 ghost use Rattle.jsonptr_tree.specs.Removing.{without_step};
 ghost use Rattle.jsonptr_tree.specs.Content.{Content, content_at, map_of};

@@ -6,7 +6,7 @@ ghost use Rattle.jsonptr_tree.specs.Node.{Step, key, place, Path, Scalar, an_obj
 ghost use Rattle.jsonptr_tree.specs.Following.{Finds, StopsAt};
 ghost use Rattle.jsonptr_tree.specs.Put.{GoesThrough, put};
 ghost use Rattle.jsonptr_tree.specs.Landing.{Lands, LandsNowhere};
-ghost use Rattle.jsonptr_tree.specs.Growing.{is_append_index, grown, LacksDash};
+ghost use Rattle.jsonptr_tree.specs.Expansion.{is_append_index, expanded, LacksDash};
 ghost use Rattle.jsonptr_tree.specs.Assigning.{with_room, Assigns};
 ghost use Rattle.jsonptr_tree.specs.Removing.{Deletes};
 
@@ -46,24 +46,24 @@ pub fn put_law()
 /// Each container holds what the later tokens make, and without tokens the value is unchanged. The
 /// expansion of a document is a document, and that of a finite map is finite. Tokens without `-`
 /// find the value in it.
-pub fn growing_law()
-    ensures nothing { (v : NodeMap) → grown [] v ≡ v }
+pub fn expansion_law()
+    ensures nothing { (v : NodeMap) → expanded [] v ≡ v }
     ensures array { (x : Text) (rest : List Text) (v : NodeMap)
         → (x ≡ codes "-") ⊎ (x ≡ codes "0")
-        → (grown (x ∷ rest) v [] ≡ Some (an_array 1))
-        × (sub (grown (x ∷ rest) v) (place 0 ∷ []) ≡ grown rest v) }
+        → (expanded (x ∷ rest) v [] ≡ Some (an_array 1))
+        × (sub (expanded (x ∷ rest) v) (place 0 ∷ []) ≡ expanded rest v) }
     ensures object { (x : Text) (rest : List Text) (v : NodeMap)
         → x ≢ codes "-"
         → x ≢ codes "0"
-        → (grown (x ∷ rest) v [] ≡ Some an_object)
-        × (sub (grown (x ∷ rest) v) (key x ∷ []) ≡ grown rest v)
-        × ((k : Text) → k ≢ x → grown (x ∷ rest) v (key k ∷ []) ≡ None) }
-    ensures tree { (tokens : List Text) (v : NodeMap) → IsTree v → IsTree (grown tokens v) }
-    ensures finite { (tokens : List Text) (v : NodeMap) → IsListed v → IsListed (grown tokens v) }
+        → (expanded (x ∷ rest) v [] ≡ Some an_object)
+        × (sub (expanded (x ∷ rest) v) (key x ∷ []) ≡ expanded rest v)
+        × ((k : Text) → k ≢ x → expanded (x ∷ rest) v (key k ∷ []) ≡ None) }
+    ensures tree { (tokens : List Text) (v : NodeMap) → IsTree v → IsTree (expanded tokens v) }
+    ensures finite { (tokens : List Text) (v : NodeMap) → IsListed v → IsListed (expanded tokens v) }
     ensures finds { (tokens : List Text) (v : NodeMap)
         → LacksDash tokens
         → IsSome (v [])
-        → Finds (grown tokens v) tokens v }
+        → Finds (expanded tokens v) tokens v }
 {}
 
 /// In a document, an assignment at a list of tokens either stores its value at one path or fails.
@@ -113,7 +113,7 @@ pub fn assigning_law()
         → (m ≡ k) × (old ≡ was) }
     ensures there { (n : NodeMap) (tokens : List Text) (v m : NodeMap) (old : Option NodeMap)
         (r : Assigns n tokens v m old)
-        → sub m r.path ≡ grown r.left v }
+        → sub m r.path ≡ expanded r.left v }
     ensures finds { (n : NodeMap) (tokens : List Text) (v m : NodeMap) (old : Option NodeMap)
         → Assigns n tokens v m old
         → LacksDash tokens
@@ -166,13 +166,13 @@ pub fn assigning_cases_law()
         → StopsAt n tokens front w (x ∷ rest)
         → n w ≡ Some (a_leaf a)
         → Assigns n tokens v m old
-        ↔ ((m ≡ put n w (grown (x ∷ rest) v)) × (old ≡ Some (sub n w))) }
+        ↔ ((m ≡ put n w (expanded (x ∷ rest) v)) × (old ≡ Some (sub n w))) }
     ensures member { (n : NodeMap) (tokens front : List Text) (x : Text) (rest : List Text)
         (v m : NodeMap) (old : Option NodeMap) (w : Path)
         → StopsAt n tokens front w (x ∷ rest)
         → n w ≡ Some an_object
         → Assigns n tokens v m old
-        ↔ ((m ≡ put n (w ++ key x ∷ []) (grown rest v)) × (old ≡ None)) }
+        ↔ ((m ≡ put n (w ++ key x ∷ []) (expanded rest v)) × (old ≡ None)) }
     ensures element { (n : NodeMap) (tokens front : List Text) (x : Text) (rest : List Text)
         (v m : NodeMap) (old : Option NodeMap) (w : Path) (len : ℕ)
         → IsTree n
@@ -180,7 +180,7 @@ pub fn assigning_cases_law()
         → n w ≡ Some (an_array len)
         → IsTrue (is_append_index len x)
         → Assigns n tokens v m old
-        ↔ ((m ≡ put (with_room n (w ++ place len ∷ [])) (w ++ place len ∷ []) (grown rest v))
+        ↔ ((m ≡ put (with_room n (w ++ place len ∷ [])) (w ++ place len ∷ []) (expanded rest v))
         × (old ≡ None)) }
 {}
 

@@ -5,7 +5,7 @@ use Rattle.serde_json.specs.declared.value.Value.{Value}
 use Rattle.jsonptr.specs.Text.{Text}
 use Rattle.jsonptr.specs.Node.{Path, NodeMap, Names}
 use Rattle.jsonptr.specs.Put.{put}
-use Rattle.jsonptr.specs.Growing.{grown}
+use Rattle.jsonptr.specs.Expansion.{expanded}
 use Rattle.jsonptr.specs.Landing.{LandsFrom}
 use Rattle.jsonptr.specs.Assign.{RefusesAssign}
 use Rattle.jsonptr.specs.Assigning.{Assigns}
@@ -40,12 +40,12 @@ named_assigned r n ts us one refused h = refused_none r (RefusesAssign n ts) ref
     (λ f why. Names-StopsBefore n ts h.0 _ _ _ _ (subst (λ (xs : List Text). Names n xs h.0) (sym one) h.1) why.nowhere.stops)
 
 -- a value assigned where there is one replaces it
-lands_there : (n : NodeMap) (ts front rest left : List Text) (path p w : Path) (v m : NodeMap) → Names n ts w → ts ≡ front ++ rest → Names n front path → length ts ≤ length front → LandsFrom path (n path) rest p left → m ≡ made n p (grown left v) → m ≡ put n w v
+lands_there : (n : NodeMap) (ts front rest left : List Text) (path p w : Path) (v m : NodeMap) → Names n ts w → ts ≡ front ++ rest → Names n front path → length ts ≤ length front → LandsFrom path (n path) rest p left → m ≡ made n p (expanded left v) → m ≡ put n w v
 lands_there n ts front [] left path p w v m named split at long lands is =
     let same : ts ≡ front = split ∙ append-nil front in
     let there : path ≡ w = Names_one_path n front path w at (subst (λ (xs : List Text). Names n xs w) same named) in
     let here : p ≡ w = lands.0 ∙ there in
-    is ∙ ap (λ (q : Path). made n q (grown left v)) here ∙ ap (λ (xs : List Text). made n w (grown xs v)) lands.1 ∙ made_named n ts w v named
+    is ∙ ap (λ (q : Path). made n q (expanded left v)) here ∙ ap (λ (xs : List Text). made n w (expanded xs v)) lands.1 ∙ made_named n ts w v named
 lands_there n ts front (x ∷ rest) left path p w v m named split at long lands is =
     let all : length ts ≡ length (front ++ x ∷ rest) = ap (λ (l : List Text). length l) split in
     let sum : length (front ++ x ∷ rest) ≡ length front + length (x ∷ rest) = length-append front (x ∷ rest) in

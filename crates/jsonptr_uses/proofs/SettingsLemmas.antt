@@ -10,7 +10,7 @@ use Rattle.jsonptr.specs.Parts.{BeginsWith}
 use Rattle.jsonptr.specs.Node.{Step, key, place, Path, Label, an_object, an_array, a_leaf, NodeMap, sub, NamesStep, Names, MayHave, IsTree}
 use Rattle.jsonptr.specs.Following.{Finds, StopsAt, LacksStep}
 use Rattle.jsonptr.specs.Put.{GoesThrough, same_step, rest_after}
-use Rattle.jsonptr.specs.Growing.{is_append_index, with_one, grown, LacksDash}
+use Rattle.jsonptr.specs.Expansion.{is_append_index, with_one, expanded, LacksDash}
 use Rattle.jsonptr.specs.Landing.{LandsFrom}
 use Rattle.jsonptr.specs.Assigning.{long_enough, with_room, Assigns}
 use Rattle.jsonptr.specs.Delete.{NamesNothing}
@@ -209,15 +209,15 @@ tokens_append (s ∷ w) u = ap (λ l. token_of s ∷ l) (tokens_append w u)
 -- the expanded value
 
 -- the tokens evaluate to v in g, and each node of g is on the way there or below it
-record Grows (xs : List Text) (g v : NodeMap) : Type 0 where
+record Expands (xs : List Text) (g v : NodeMap) : Type 0 where
   path : Path
   reads : IsLocationOf xs (tokens_to path)
   below : sub g path ≡ v
   all : (u : Path) → IsSome (g u) → Clear path u → ⊥
 
 -- a node with one child around it
-grows_one : (l : Label) (s : Step) (x : Text) (xs : List Text) (g v : NodeMap) → (token_of s ≡ x) ⊎ ((x ≡ codes "-") × (i : ℕ) × (token_of s ≡ dec i)) → same_step s s ≡ true → ((t : Step) → same_step s t ≡ true → s ≡ t) → Grows xs g v → Grows (x ∷ xs) (with_one l s g) v
-grows_one l s x xs g v read same one r = record {
+expands_one : (l : Label) (s : Step) (x : Text) (xs : List Text) (g v : NodeMap) → (token_of s ≡ x) ⊎ ((x ≡ codes "-") × (i : ℕ) × (token_of s ≡ dec i)) → same_step s s ≡ true → ((t : Step) → same_step s t ≡ true → s ≡ t) → Expands xs g v → Expands (x ∷ xs) (with_one l s g) v
+expands_one l s x xs g v read same one r = record {
   path = s ∷ r.path;
   reads = (read, r.reads);
   below = ap (λ (k : NodeMap). sub k r.path) here ∙ r.below;
@@ -250,13 +250,13 @@ one_key : (x : Text) (t : Step) → same_step (key x) t ≡ true → key x ≡ t
 one_key x (key k) e = ap key ((bytes_eq-Decides x k).0 e)
 one_key x (place j) e = absurd (true≢false (sym e))
 
-grows : (xs : List Text) (v : NodeMap) → Grows xs (grown xs v) v
-grows [] v = record { path = []; reads = tt; below = refl; all = λ u some clear. clear.1 (u, refl) }
-grows (x ∷ xs) v = by (is_append_index 0 x) refl (grows xs v)
+expands : (xs : List Text) (v : NodeMap) → Expands xs (expanded xs v) v
+expands [] v = record { path = []; reads = tt; below = refl; all = λ u some clear. clear.1 (u, refl) }
+expands (x ∷ xs) v = by (is_append_index 0 x) refl (expands xs v)
   where
-    by : (b : Bool) → is_append_index 0 x ≡ b → Grows xs (grown xs v) v → Grows (x ∷ xs) (cond b (with_one (an_array 1) (place 0) (grown xs v)) (with_one an_object (key x) (grown xs v))) v
-    by true e r = grows_one (an_array 1) (place 0) x xs (grown xs v) v (end_place 0 x e) refl first_place r
-    by false e r = grows_one an_object (key x) x xs (grown xs v) v (inl refl) ((bytes_eq-Decides x x).1 refl) (one_key x) r
+    by : (b : Bool) → is_append_index 0 x ≡ b → Expands xs (expanded xs v) v → Expands (x ∷ xs) (cond b (with_one (an_array 1) (place 0) (expanded xs v)) (with_one an_object (key x) (expanded xs v))) v
+    by true e r = expands_one (an_array 1) (place 0) x xs (expanded xs v) v (end_place 0 x e) refl first_place r
+    by false e r = expands_one an_object (key x) x xs (expanded xs v) v (inl refl) ((bytes_eq-Decides x x).1 refl) (one_key x) r
 
 -- the tokens that are left lead from where evaluation stops to the location
 landing : (w : Path) (o : Option Label) (rest : List Text) (p : Path) (left : List Text) → LandsFrom w o rest p left → (g : Path) → IsLocationOf left (tokens_to g) → (u : Path) × (p ++ g ≡ w ++ u) × IsLocationOf rest (tokens_to u)
@@ -324,7 +324,7 @@ was_named n m p tree outside others q named away = along m n others q step (ther
 -- the location
 
 -- the path of tokens that are apart from those of the location is not on the way to the assigned value, nor below it
-clear_after : (m : NodeMap) (p : Path) (left : List Text) (v : NodeMap) (g : Grows left (grown left v) v) (at others : List Text) (q : Path) → ((u : Path) → m (p ++ u) ≡ grown left v u) → Names m at (p ++ g.path) → Names m others q → IsApart others at → Clear p q
+clear_after : (m : NodeMap) (p : Path) (left : List Text) (v : NodeMap) (g : Expands left (expanded left v) v) (at others : List Text) (q : Path) → ((u : Path) → m (p ++ u) ≡ expanded left v u) → Names m at (p ++ g.path) → Names m others q → IsApart others at → Clear p q
 clear_after m p left v g at others q inside there named apart = (above, below)
   where
     -- q is not on the way to the location, however that continues after p
@@ -341,10 +341,10 @@ clear_after m p left v g at others q inside there named apart = (above, below)
     )
 
 -- one list of tokens resolves to the value afterwards, and each list apart from it resolves to the same as before
-pub set_at : (n : NodeMap) (tokens : List Text) (v m : NodeMap) (old : Option NodeMap) (r : Assigns n tokens v m old) → IsTree n → IsTree m → IsSome (v []) → ((u : Path) → m (r.path ++ u) ≡ grown r.left v u) × ((u : Path) → (GoesThrough u r.path → ⊥) → m u ≡ with_room n r.path u) → (at : List Text) × IsLocationOf tokens at × IsSetAt n at v m
+pub set_at : (n : NodeMap) (tokens : List Text) (v m : NodeMap) (old : Option NodeMap) (r : Assigns n tokens v m old) → IsTree n → IsTree m → IsSome (v []) → ((u : Path) → m (r.path ++ u) ≡ expanded r.left v u) × ((u : Path) → (GoesThrough u r.path → ⊥) → m u ≡ with_room n r.path u) → (at : List Text) × IsLocationOf tokens at × IsSetAt n at v m
 set_at n tokens v m old r tree after some made =
     let lands = r.lands in
-    let g = grows r.left v in
+    let g = expands r.left v in
     let goal : Path = r.path ++ g.path in
     let down = landing lands.path (n lands.path) lands.rest r.path r.left lands.lands g.path g.reads in
     let more : List Text = tokens_to down.0 in

@@ -1,5 +1,5 @@
 -- Where the undos of an editor lead, and where references lead. The values of settings in layers and of an overlay.
--- What a document is checked for. Sessions on texts. Why a patch document is not applied
+-- What a document is checked for. Sessions on texts. Why a patch document is not applied.
 pub mod Undoing
 pub mod Settings
 pub mod References

@@ -7,7 +7,7 @@ ghost use Rattle.jsonptr_edit_in_text.specs.declared.raw_operation.RawOperation.
 use jsonptr::Fault;
 use jsonptr_edit_in_text::{Buffers, RawOperation, raw_operations, try_apply_raw_in_place};
 use jsonptr_patch_document::read_patch;
-use serde_json::Value;
+use jsonptr_value::if_json;
 use std::alloc::{AllocError, Global};
 
 /// Applies the patch document to the text, in place. What each `add` and `replace` puts there holds the
@@ -40,10 +40,8 @@ fn as_written(alloc: Global, patch: &str) -> Result<Option<Vec<RawOperation>>, A
     ensures { IfOk result (λ found. IfSome found
         (λ operations. All (IsGivenIn patch.now) operations.items)) }
 {
-    let document = match Value::from_str(alloc, patch) {
-        Ok(document) => document,
-        Err(error) if error.is_memory() => return Err(AllocError),
-        Err(_) => return Ok(None),
+    let Some(document) = if_json(jsonptr_value::read(alloc, patch))? else {
+        return Ok(None);
     };
     match read_patch(alloc, &document) {
         Ok(operations) => {

@@ -19,10 +19,8 @@ ghost use Rattle.jsonptr_c_calls.specs.declared.call_error.CallError.TheVariants
 ghost use Rattle.jsonptr_in_text.specs.declared.format.Format.TheVariants.{Compact};
 
 use jsonptr_c_calls::call_error::CallError;
-use jsonptr_c_calls::documents::{diff, free, node_at, parse, string_at};
-use jsonptr_c_calls::locations::{locate_in, pointer_at_in};
 use jsonptr_c_calls::node::STRING;
-use jsonptr_c_calls::texts::print_in;
+use jsonptr_c_calls::{documents, locations, texts};
 use jsonptr_c_handle::handle::Handle;
 use jsonptr_in_text::Format;
 use std::alloc::Global;
@@ -32,7 +30,7 @@ use std::alloc::Global;
 ///
 /// # Errors
 ///
-/// Those of `parse` and `string_at`.
+/// Those of `documents::parse` and `documents::string`.
 pub fn string_in(
     alloc: Global,
     text: &[u8],
@@ -43,9 +41,9 @@ pub fn string_in(
         × FindsString d pointer.now (take n out.new)) }
 {
     let mut document = Handle::empty();
-    parse(alloc, &mut document, text)?;
-    let copied = string_at(alloc, &mut document, pointer, out);
-    free(alloc, &mut document);
+    documents::parse(alloc, &mut document, text)?;
+    let copied = documents::string(alloc, &mut document, pointer, out);
+    documents::free(alloc, &mut document);
     copied
 }
 
@@ -53,12 +51,12 @@ pub fn string_in(
 ///
 /// # Errors
 ///
-/// Those of `node_at`.
+/// Those of `documents::node`.
 pub fn is_string(alloc: Global, document: &mut Handle, pointer: &[u8]) -> Result<bool, CallError>
     ensures { IfOk result (λ is. HoldsWith document.old (λ v. (e : Data)
         × FindsAtPointer (view v) pointer.now e × (IsTrue is ↔ (type_of e ≡ a_string)))) }
 {
-    let node = node_at(alloc, document, pointer)?;
+    let node = documents::node(alloc, document, pointer)?;
     Ok(node.node_type == STRING)
 }
 
@@ -67,7 +65,7 @@ pub fn is_string(alloc: Global, document: &mut Handle, pointer: &[u8]) -> Result
 ///
 /// # Errors
 ///
-/// Those of `parse` and `diff`.
+/// Those of `documents::parse` and `documents::diff`.
 pub fn changes_between(
     alloc: Global,
     old: &[u8],
@@ -79,10 +77,10 @@ pub fn changes_between(
 {
     let mut first = Handle::empty();
     let mut second = Handle::empty();
-    parse(alloc, &mut first, old)?;
+    documents::parse(alloc, &mut first, old)?;
     let copied = changes_to(alloc, &mut first, &mut second, new, out);
-    free(alloc, &mut first);
-    free(alloc, &mut second);
+    documents::free(alloc, &mut first);
+    documents::free(alloc, &mut second);
     copied
 }
 
@@ -91,7 +89,7 @@ pub fn changes_between(
 ///
 /// # Errors
 ///
-/// Those of `parse` and `diff`.
+/// Those of `documents::parse` and `documents::diff`.
 fn changes_to(
     alloc: Global,
     first: &mut Handle,
@@ -102,8 +100,8 @@ fn changes_to(
     ensures { IfOk result (λ n. HoldsWith first.old (λ v. (m : Data) × (read text.now ≡ Some m)
         × IsDiffText Compact (view v) m (take n out.new))) }
 {
-    parse(alloc, second, text)?;
-    diff(alloc, first, second, Format::Compact, out)
+    documents::parse(alloc, second, text)?;
+    documents::diff(alloc, first, second, Format::Compact, out)
 }
 
 /// Copies the JSON text of the value that the pointer resolves to in a text to the buffer, and returns
@@ -111,7 +109,7 @@ fn changes_to(
 ///
 /// # Errors
 ///
-/// Those of `print_in`, except [`CallError::Resolve`].
+/// Those of `texts::resolve`, except [`CallError::Resolve`].
 pub fn field_in(
     alloc: Global,
     text: &[u8],
@@ -124,7 +122,7 @@ pub fn field_in(
     ensures refused { IfErr result
         (IsNotPrintedFrom Compact text.now pointer.now (length out.old)) }
 {
-    match print_in(alloc, text, pointer, Format::Compact, out) {
+    match texts::resolve(alloc, text, pointer, Format::Compact, out) {
         Ok(copied) => Ok(Some(copied)),
         Err(CallError::Resolve(_error)) => Ok(None),
         Err(call_error) => Err(call_error),
@@ -135,13 +133,13 @@ pub fn field_in(
 ///
 /// # Errors
 ///
-/// Those of `locate_in`.
+/// Those of `locations::locate`.
 pub fn bytes_in<'t>(alloc: Global, text: &'t [u8], pointer: &[u8]) -> Result<&'t [u8], CallError>
     ensures found { IfOk result (λ piece. (ts : List Text) × (v : Data) × HasTokens pointer.now ts
         × FindsInText text.now ts v × IsValueText v piece.now) }
     ensures refused { IfErr result (IsNotLocated text.now pointer.now) }
 {
-    let span = locate_in(alloc, text, pointer)?;
+    let span = locations::locate(alloc, text, pointer)?;
     Ok(&text[span.start..span.end])
 }
 
@@ -150,7 +148,7 @@ pub fn bytes_in<'t>(alloc: Global, text: &'t [u8], pointer: &[u8]) -> Result<&'t
 ///
 /// # Errors
 ///
-/// Those of `pointer_at_in`, except [`CallError::NoValue`].
+/// Those of `locations::pointer_at`, except [`CallError::NoValue`].
 pub fn pointer_under(
     alloc: Global,
     text: &[u8],
@@ -161,7 +159,7 @@ pub fn pointer_under(
         (λ n. PointsAt text.now offset (take n out.new))) }
     ensures refused { IfErr result (IsNotPointedAt text.now offset (length out.old)) }
 {
-    match pointer_at_in(alloc, text, offset, out) {
+    match locations::pointer_at(alloc, text, offset, out) {
         Ok(copied) => Ok(Some(copied)),
         Err(CallError::NoValue { .. }) => Ok(None),
         Err(call_error) => Err(call_error),

@@ -8,7 +8,7 @@ ghost use Rattle.jsonptr_in_text.specs.declared.format.Format.TheVariants.{Compa
 ghost use Rattle.jsonptr_c_calls.specs.Values.{HoldsWith, FindsTextOf};
 
 use jsonptr_c_calls::call_error::CallError;
-use jsonptr_c_calls::documents::{free, parse, patch, print_at};
+use jsonptr_c_calls::documents;
 use jsonptr_c_handle::handle::Handle;
 use jsonptr_in_text::Format;
 use std::alloc::Global;
@@ -18,7 +18,7 @@ use std::alloc::Global;
 ///
 /// # Errors
 ///
-/// Those of `parse`, `patch` and `print_at`.
+/// Those of `documents::parse`, `documents::patch` and `documents::get`.
 pub fn value_after_patch(
     alloc: Global,
     text: &[u8],
@@ -30,9 +30,9 @@ pub fn value_after_patch(
         × AppliesText operations.now d m × FindsTextOf Compact m pointer.now (take n out.new)) }
 {
     let mut document = Handle::empty();
-    parse(alloc, &mut document, text)?;
+    documents::parse(alloc, &mut document, text)?;
     let copied = patched_value(alloc, &mut document, operations, pointer, out);
-    free(alloc, &mut document);
+    documents::free(alloc, &mut document);
     copied
 }
 
@@ -41,7 +41,7 @@ pub fn value_after_patch(
 ///
 /// # Errors
 ///
-/// Those of `patch` and `print_at`.
+/// Those of `documents::patch` and `documents::get`.
 fn patched_value(
     alloc: Global,
     document: &mut Handle,
@@ -52,6 +52,6 @@ fn patched_value(
     ensures { IfOk result (λ n. HoldsWith document.old (λ v. (m : Data)
         × AppliesText operations.now (view v) m × FindsTextOf Compact m pointer.now (take n out.new))) }
 {
-    patch(alloc, document, operations)?;
-    print_at(alloc, document, pointer, Format::Compact, out)
+    documents::patch(alloc, document, operations)?;
+    documents::get(alloc, document, pointer, Format::Compact, out)
 }

@@ -10,7 +10,7 @@
 //! - [`patch_documents`]: a patch document that is applied.
 //! - [`patched_texts`]: a text that is patched, with a patch that takes that back.
 //! - [`differences`]: a copy that is kept up to date by differences.
-//! - [`merging`]: the patches of two people, and a difference that is sent.
+//! - [`merge`]: the patches of two people, and a difference that is sent.
 //! - [`sessions`]: calls on a document that is read from a text.
 //! - [`in_text`]: numbers and texts in the text of a document.
 //! - [`edits_in_text`]: two edits in the text of a document.
@@ -49,7 +49,7 @@ pub mod handle_values;
 pub mod handles;
 pub mod in_text;
 pub mod json_lines;
-pub mod merging;
+pub mod merge;
 pub mod nodes;
 pub mod overlay;
 pub mod own_text;

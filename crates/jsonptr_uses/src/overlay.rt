@@ -110,8 +110,8 @@ impl Delete for Overlay {
 ///
 /// Those of [`Pointer::resolve`].
 pub fn found_in<'o>(
-    overlay: &'o Overlay,
     alloc: Global,
+    overlay: &'o Overlay,
     pointer: Pointer<'_>,
 ) -> Result<&'o Value, Fault<resolve::Error>>
     ensures found { IfOk result (λ value.

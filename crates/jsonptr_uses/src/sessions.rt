@@ -69,7 +69,7 @@ pub fn run_texts(
         (map (command_of string_map) calls.now) (map (answer_of json_map) outcome.replies.items)
         (record { tokens = pointer.new; nodes = json_map outcome.document })) }
     ensures sorted { IfOk result (λ outcome. JsonHasSortedKeys outcome.document) }
-    ensures given_sorted { IfOk result (λ outcome.
+    ensures returned_sorted { IfOk result (λ outcome.
         All (ReplyHas JsonHasSortedKeys) outcome.replies.items) }
     ensures one_value { IfOk result (λ outcome. (d : Data)
         → HasSortedKeys d → nodes d ≡ json_map outcome.document → d ≡ view outcome.document) }

@@ -6,7 +6,7 @@ ghost use Rattle.serde_json.specs.View.{view};
 ghost use Rattle.jsonptr.specs.Text.{Text, HasNoTilde, text};
 ghost use Rattle.jsonptr.specs.Node.{NodeMap};
 ghost use Rattle.jsonptr.specs.Following.{Finds};
-ghost use Rattle.jsonptr.specs.Growing.{LacksDash};
+ghost use Rattle.jsonptr.specs.Expansion.{LacksDash};
 ghost use Rattle.jsonptr.specs.Assign.{RefusesAssign};
 ghost use Rattle.jsonptr.specs.Assigning.{Assigns};
 ghost use Rattle.jsonptr.specs.Delete.{NamesNothing};

@@ -37,7 +37,7 @@ pub fn set_in_stream<R: io::Read, W: io::Write>(
     ensures assigned { IfOk result (λ _. ForInput (R.remaining input.old) (λ bytes. (out : Text)
         × AssignsInText bytes (tokens pointer.entry) (nodes (value_of_raw raw)) out
         × AssignsBytes bytes (tokens pointer.entry) (value_of_raw raw) out
-        × Carries (string_bytes raw.text.flat) out
+        × Carries (string_bytes raw.printed.flat) out
         × Appends (W.contents output.old) (W.contents output.new) out)) }
     ensures refused { IfErr result (StopsDocument (Set pointer.entry raw) Kept
         (R.remaining input.old) (W.contents output.old) (W.contents output.new)) }

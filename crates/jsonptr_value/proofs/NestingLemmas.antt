@@ -5,7 +5,7 @@ use Rattle.jsonptr_grammar.specs.Text.{Text}
 use Rattle.jsonptr_tree.specs.Node.{Step, key, place, Path, Label, an_object, an_array, a_leaf, NodeMap, sub, NamesStep, Names}
 use Rattle.jsonptr_tree.specs.Following.{Finds}
 use Rattle.jsonptr_tree.specs.Put.{GoesThrough, same_step, rest_after, label_or, put}
-use Rattle.jsonptr_tree.specs.Growing.{is_append_index, with_one, grown}
+use Rattle.jsonptr_tree.specs.Expansion.{is_append_index, with_one, expanded}
 use Rattle.jsonptr_tree.specs.Landing.{LandsFrom}
 use Rattle.jsonptr_tree.specs.Assigning.{long_enough, with_room, Assigns}
 use Rattle.jsonptr_tree.specs.Removing.{one_less, place_before, without_key, without_place, without_step, Deletes}
@@ -88,13 +88,13 @@ either_within : (k : ℕ) (b : Bool) (n m : NodeMap) → NestsWithin k n → Nes
 either_within k true n m h g = h
 either_within k false n m h g = g
 
-NestsWithin-grown : (j : ℕ) (left : List Text) (v : NodeMap) → NestsWithin j v → NestsWithin (length left + j) (grown left v)
-NestsWithin-grown j [] v h = NestsWithin-more j (length {A = Text} [] + j) v (omega arith) h
-NestsWithin-grown j (x ∷ xs) v h =
-    let rest : NestsWithin (length xs + j) (grown xs v) = NestsWithin-grown j xs v h in
-    let array : NestsWithin (suc (length xs + j)) (with_one (an_array 1) (place 0) (grown xs v)) = NestsWithin-with_one (length xs + j) (an_array 1) (place 0) (grown xs v) rest in
-    let object : NestsWithin (suc (length xs + j)) (with_one an_object (key x) (grown xs v)) = NestsWithin-with_one (length xs + j) an_object (key x) (grown xs v) rest in
-    NestsWithin-more (suc (length xs + j)) (length (x ∷ xs) + j) (grown (x ∷ xs) v) (omega arith) (either_within (suc (length xs + j)) (is_append_index 0 x) (with_one (an_array 1) (place 0) (grown xs v)) (with_one an_object (key x) (grown xs v)) array object)
+NestsWithin-expanded : (j : ℕ) (left : List Text) (v : NodeMap) → NestsWithin j v → NestsWithin (length left + j) (expanded left v)
+NestsWithin-expanded j [] v h = NestsWithin-more j (length {A = Text} [] + j) v (omega arith) h
+NestsWithin-expanded j (x ∷ xs) v h =
+    let rest : NestsWithin (length xs + j) (expanded xs v) = NestsWithin-expanded j xs v h in
+    let array : NestsWithin (suc (length xs + j)) (with_one (an_array 1) (place 0) (expanded xs v)) = NestsWithin-with_one (length xs + j) (an_array 1) (place 0) (expanded xs v) rest in
+    let object : NestsWithin (suc (length xs + j)) (with_one an_object (key x) (expanded xs v)) = NestsWithin-with_one (length xs + j) an_object (key x) (expanded xs v) rest in
+    NestsWithin-more (suc (length xs + j)) (length (x ∷ xs) + j) (expanded (x ∷ xs) v) (omega arith) (either_within (suc (length xs + j)) (is_append_index 0 x) (with_one (an_array 1) (place 0) (expanded xs v)) (with_one an_object (key x) (expanded xs v)) array object)
 
 -- the steps of the path and the tokens that are left are as many as the tokens
 lands_length : (w : Path) (l : Option Label) (rest : List Text) (p : Path) (left : List Text) → LandsFrom w l rest p left → length p + length left ≡ length w + length rest
@@ -123,7 +123,7 @@ Assigns-within k j n tokens v m old made h below le =
     let all : length tokens ≡ length lands.front + length lands.rest = ap length lands.stops.split ∙ length-append lands.front lands.rest in
     let len : length made.path + length made.left ≡ length lands.path + length lands.rest = lands_length lands.path (n lands.path) lands.rest made.path made.left lands.lands in
     subst (NestsWithin k) (sym made.made)
-    (NestsWithin-put k (length made.left + j) (with_room n made.path) made.path (grown made.left v) (NestsWithin-with_room k n made.path h) (NestsWithin-grown j made.left v below) (omega (arith, front, all, len, le)))
+    (NestsWithin-put k (length made.left + j) (with_room n made.path) made.path (expanded made.left v) (NestsWithin-with_room k n made.path h) (NestsWithin-expanded j made.left v below) (omega (arith, front, all, len, le)))
 
 -- deletion
 

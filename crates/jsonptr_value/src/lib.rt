@@ -1,8 +1,8 @@
 //! What is true of a JSON value without pointers.
 //!
-//! This crate reads a value from a text, and returns its type, its length and how deep it nests. It
-//! prints, copies and drops a value that nests deep, and says when two numbers are the same. TOML values
-//! that nest deep are dropped here too.
+//! This crate reads a value from a text, returns its type and its length, and says whether it nests
+//! deeper than so many levels, and when two numbers are the same. It prints, copies and drops a value that
+//! nests deep. TOML values that nest deep are dropped here too.
 //!
 //! `serde_json` prints, clones and drops a value by recursion, so a value that nests deep overflows
 //! the stack. [`to_string`], [`copy`] and [`discard`] take only the first 32 levels by recursion, and a

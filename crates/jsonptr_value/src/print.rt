@@ -35,6 +35,7 @@ pub fn to_string(alloc: Global, value: &Value) -> Result<String, AllocError>
 {
     let mut out = Writer::new(Vec::with_capacity(alloc, 128)?);
     write(alloc, value, RECURSION_LEVELS, &mut out)?;
+    // SAFETY: the writer's bytes are UTF-8, which the prover checks.
     Ok(unsafe { String::from_utf8_unchecked(out.into_inner()) })
 }
 

@@ -5,7 +5,7 @@ ghost use Rattle.jsonptr_grammar.specs.Text.{Text, HasNoTilde, text, dec};
 ghost use Rattle.jsonptr_tree.specs.Node.{key, an_array};
 ghost use Rattle.jsonptr_tree.specs.Following.{LacksStep};
 ghost use Rattle.jsonptr_tree.specs.Put.{put};
-ghost use Rattle.jsonptr_tree.specs.Growing.{grown, is_append_index};
+ghost use Rattle.jsonptr_tree.specs.Expansion.{expanded, is_append_index};
 ghost use Rattle.jsonptr_tree.specs.Assigning.{Assigns};
 ghost use Rattle.jsonptr_base.specs.Fault.{IfRefused, HasMemory};
 ghost use Rattle.jsonptr_document.specs.Writing.{IsObject, Pushes};
@@ -99,7 +99,10 @@ pub fn put<D: Descend>(
     match swap_at(document, &args, &mut value) {
         Ok(()) => Ok(Some(value)),
         Err(Fault::Refused(stop)) => put_missing(alloc, document, route, stop.offset, value),
-        Err(Fault::Memory(error)) => Err(Fault::Memory(error)),
+        Err(Fault::Memory(error)) => {
+            D::Node::discard(value);
+            Err(Fault::Memory(error))
+        }
     }
 }
 
@@ -170,7 +173,10 @@ fn put_missing<D: Descend>(
     match document.descend(&args) {
         Ok(node) => put_child(alloc, node, &stop, value),
         Err(Fault::Refused(_)) => unreachable!(),
-        Err(Fault::Memory(error)) => Err(Fault::Memory(error)),
+        Err(Fault::Memory(error)) => {
+            D::Node::discard(value);
+            Err(Fault::Memory(error))
+        }
     }
 }
 
@@ -240,15 +246,15 @@ fn replace_leaf<N: DocumentMut>(
 ) -> Result<N, AllocError>
     ensures replaced { IfOk result (λ _.
         N.Document.nodes node.new
-        ≡ grown (token.now ∷ tokens rest.entry) (N.Document.nodes value)) }
+        ≡ expanded (token.now ∷ tokens rest.entry) (N.Document.nodes value)) }
     ensures sorted { IfOk result (λ _.
         N.Document.has_sorted_keys value → N.Document.has_sorted_keys node.new) }
     ensures returned { IfOk result (λ leaf. leaf ≡ node.old) }
     ensures unchanged { OnErr result (N.Document.stands_at node.old [] node.new) }
 {
     let below = expand(alloc, rest, value)?;
-    let grown = expand_one(alloc, token, below)?;
-    Ok(mem::replace(node, grown))
+    let expanded = expand_one(alloc, token, below)?;
+    Ok(mem::replace(node, expanded))
 }
 
 /// Inserts a member into `node`, an object: under the key `token`, `value` expanded by `rest`.
@@ -271,14 +277,21 @@ fn insert_member<N: DocumentMut>(
     ensures inserted { IfOk result (λ _.
         N.Document.nodes node.new
         ≡ put (N.Document.nodes node.old) (key token.now ∷ [])
-        (grown (tokens rest.entry) (N.Document.nodes value))) }
+        (expanded (tokens rest.entry) (N.Document.nodes value))) }
     ensures sorted { IfOk result (λ _. N.Document.has_sorted_keys value
         → N.Document.has_sorted_keys node.old → N.Document.has_sorted_keys node.new) }
     ensures unchanged { OnErr result (N.Document.stands_at node.old [] node.new) }
 {
-    let key = key_of(alloc, token)?;
-    let grown = expand(alloc, rest, value)?;
-    node.insert(key, grown)
+    match key_of(alloc, token) {
+        Ok(key) => {
+            let expanded = expand(alloc, rest, value)?;
+            node.insert(key, expanded)
+        }
+        Err(error) => {
+            N::discard(value);
+            Err(error)
+        }
+    }
 }
 
 /// Appends `value`, expanded by the tokens that are left, to `node`, an array of `length` elements.
@@ -302,7 +315,7 @@ fn push_element<N: DocumentMut>(
     requires lacks { (i : ℕ) → i < length → stop.now.token ≢ dec i }
     ensures end { IfOk result (λ _. IsTrue (is_append_index length stop.now.token)) }
     ensures pushed { IfOk result (λ _.
-        Pushes (N.Document.nodes node.old) (grown (tokens stop.now.rest) (N.Document.nodes value))
+        Pushes (N.Document.nodes node.old) (expanded (tokens stop.now.rest) (N.Document.nodes value))
         (N.Document.nodes node.new)) }
     ensures sorted { IfOk result (λ _. N.Document.has_sorted_keys value
         → N.Document.has_sorted_keys node.old → N.Document.has_sorted_keys node.new) }
@@ -310,9 +323,12 @@ fn push_element<N: DocumentMut>(
     ensures unchanged { OnErr result (N.Document.stands_at node.old [] node.new) }
     ensures no_memory { HasNoIndex length stop.now.token → HasMemory result }
 {
-    check_append_index(length, stop.front, &stop.token).map_err(Fault::Refused)?;
-    let grown = expand(alloc, stop.rest, value)?;
-    node.push(grown)?;
+    if let Err(error) = check_append_index(stop.front, &stop.token, length) {
+        N::discard(value);
+        return Err(Fault::Refused(error));
+    }
+    let expanded = expand(alloc, stop.rest, value)?;
+    node.push(expanded)?;
     Ok(())
 }
 
@@ -328,9 +344,9 @@ fn push_element<N: DocumentMut>(
 ///
 /// `token` is not the decimal text of a number less than `length`.
 fn check_append_index(
-    length: usize,
     front: PointerText<'_>,
     token: &Token<'_>,
+    length: usize,
 ) -> Result<(), PutError>
     requires { (i : ℕ) → i < length → token.now ≢ dec i }
     ensures end { IfOk result (λ _. IsTrue (is_append_index length token.now)) }
@@ -360,17 +376,17 @@ fn check_append_index(
 /// [`AllocError`] if an allocation fails. `value` is dropped.
 fn expand<N: DocumentMut>(alloc: Global, route: PointerText<'_>, value: N) -> Result<N, AllocError>
     ensures map { IfOk result (λ r.
-        N.Document.nodes r ≡ grown (tokens route.entry) (N.Document.nodes value)) }
+        N.Document.nodes r ≡ expanded (tokens route.entry) (N.Document.nodes value)) }
     ensures sorted { IfOk result (λ r.
         N.Document.has_sorted_keys value → N.Document.has_sorted_keys r) }
 {
-    let mut grown = value;
+    let mut expanded = value;
     let mut left = route;
     while let Some((front, token)) = left.split_back() {
-        grown = expand_one(alloc, &token, grown)?;
+        expanded = expand_one(alloc, &token, expanded)?;
         left = front;
     }
-    Ok(grown)
+    Ok(expanded)
 }
 
 /// Returns a container of `value` alone: an array if `token` is `-` or `0`, and otherwise an
@@ -381,7 +397,7 @@ fn expand<N: DocumentMut>(alloc: Global, route: PointerText<'_>, value: N) -> Re
 /// [`AllocError`] if an allocation fails. `value` is dropped.
 fn expand_one<N: DocumentMut>(alloc: Global, token: &Token<'_>, value: N) -> Result<N, AllocError>
     ensures map { IfOk result (λ r.
-        N.Document.nodes r ≡ grown (token.now ∷ []) (N.Document.nodes value)) }
+        N.Document.nodes r ≡ expanded (token.now ∷ []) (N.Document.nodes value)) }
     ensures sorted { IfOk result (λ r.
         N.Document.has_sorted_keys value → N.Document.has_sorted_keys r) }
 {

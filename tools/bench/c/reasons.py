@@ -25,7 +25,7 @@ from speed import compile_c, document, least, shown
 MEMORY = ("`malloc` and `free`", r"malloc|free|realloc|calloc|rattle_alloc|_int_|unlink_chunk|sbrk|brk|trim")
 KERNEL = ("pages from the system", r"^\[k\]")
 READING = ("reading the text, in the kit's `serde_json` and `json`",
-           r"serde_json::|json::|fast_float|utf8|btree|reading::read|insert_reserved|memmove|memcpy")
+           r"serde_json::|json::|fast_float|utf8|btree|read::read|insert_reserved|memmove|memcpy")
 DROPPING = ("dropping the values", r"drop|destroy|Destruct")
 PATCHING = [KERNEL, MEMORY, ("clearing the reader's index, at each text", r"memset"), DROPPING,
             ("the operations: members, pointers, copies of values",

@@ -78,7 +78,7 @@ static void expect_too_deep(const char *about, jsonptr_status status, const json
     jsonptr_error wanted = { .status = JSONPTR_TOO_DEEP };
     expect_number("status", about, status, JSONPTR_TOO_DEEP);
     expect_number("fields", about, memcmp(error, &wanted, sizeof wanted) == 0, 1);
-    expect_message(about, error, "the document would nest deeper than 10,127");
+    expect_message(about, error, "the document could nest deeper than 10,127");
 }
 
 /* Assignments at pointers of more and more tokens. */

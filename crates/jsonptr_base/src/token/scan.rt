@@ -11,7 +11,7 @@ ghost use Rattle.jsonptr_base.specs.Token.{IsEncodingErrorOf};
 use super::{EncodingError, InvalidEncoding};
 use std::alloc::{AllocError, Global};
 
-/// Returns the offset of the first `~` or `/`. A short text is searched by a plain loop.
+/// Returns the offset of the first `~` or `/`. A short text is searched byte by byte.
 #[inline(always)]
 pub(super) fn first_special(bytes: &[u8]) -> Option<usize>
     ensures { IsFirstByte (is_byte2 126 47) bytes.now result }
@@ -19,15 +19,10 @@ pub(super) fn first_special(bytes: &[u8]) -> Option<usize>
     if bytes.len() >= SHORT {
         return memchr::memchr2(b'~', b'/', bytes);
     }
-    for i in 0..bytes.len() {
-        if bytes[i] == b'~' || bytes[i] == b'/' {
-            return Some(i);
-        }
-    }
-    None
+    bytes.iter().position(|byte| *byte == b'~' || *byte == b'/')
 }
 
-/// Returns the offset of the first `~`. A short text is searched by a plain loop.
+/// Returns the offset of the first `~`. A short text is searched byte by byte.
 #[inline(always)]
 pub(super) fn first_tilde(bytes: &[u8]) -> Option<usize>
     ensures { IsFirstByte (is_byte 126) bytes.now result }
@@ -35,15 +30,10 @@ pub(super) fn first_tilde(bytes: &[u8]) -> Option<usize>
     if bytes.len() >= SHORT {
         return memchr::memchr(b'~', bytes);
     }
-    for i in 0..bytes.len() {
-        if bytes[i] == b'~' {
-            return Some(i);
-        }
-    }
-    None
+    bytes.iter().position(|byte| *byte == b'~')
 }
 
-/// The length, in bytes, from which a search by blocks is faster than a plain loop.
+/// The length, in bytes, from which a search by blocks is faster than one byte by byte.
 const SHORT: usize = 32;
 
 /// Returns the first fault of a token's text, or `None` if the text is a token.

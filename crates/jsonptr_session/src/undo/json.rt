@@ -56,7 +56,7 @@ pub fn assign_with_undo(
         → HasSortedKeys (view doc.old) → HasSortedKeys d → d ≡ view doc.old) }
     ensures sorted { IfOk result (λ _.
         HasSortedKeys (view value) → HasSortedKeys (view doc.old) → HasSortedKeys (view doc.new)) }
-    ensures given_sorted { IfOk result (λ u.
+    ensures returned_sorted { IfOk result (λ u.
         IfPut u (λ v. HasSortedKeys (view doc.old) → HasSortedKeys (view v))) }
     ensures refused { IfRefused result (RefusesAssign (json_map doc.old) (tokens ptr.entry)) }
     ensures unchanged { OnErr result (view doc.new ≡ view doc.old) }

@@ -1,7 +1,7 @@
 use Rattle.std.proofs.Common.{inl, inr, List, ℕ, sym, subst}
 use Rattle.serde_json.specs.View.{view}
 use Rattle.jsonptr_c_handle.specs.Handle.{Holds}
-use Rattle.jsonptr_c_calls.specs.Patches.{IsBackText}
+use Rattle.jsonptr_c_calls.specs.Patches.{IsInverseText}
 use Rattle.jsonptr_c_calls.proofs.CopyLemmas.{if_err, if_ok_held}
 use Rattle.jsonptr_c_calls.proofs.NestingLemmas.{all_sorted, bounded-patch}
 use Rattle.jsonptr_c_calls.proofs.documents.patch_with_inverse.Goals as goal
@@ -19,7 +19,7 @@ returns-in-Ok-clause-applied c =
       kept,
       (
         (c.in_ok-operations.operations.items, c.in_ok-operations.ensures.read, c.in-Ok.ensures.shallow, c.in-Ok.ensures.applied),
-        subst (λ (out : List ℕ). IsBackText c.args.format (view made.document) (view value) out) (sym copied) c.in-Ok.ensures.inverse,
+        subst (λ (out : List ℕ). IsInverseText c.args.format (view made.document) (view value) out) (sym copied) c.in-Ok.ensures.inverse,
       ),
     ))
     c.put_patched.ensures.copied c.put_patched.ensures.replaced

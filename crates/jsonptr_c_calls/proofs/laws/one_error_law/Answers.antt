@@ -26,8 +26,8 @@ returns-clause-parse_exactly c = not_parsed_exactly
 pub returns-clause-lost_number : goal.returns-clause-lost_number
 returns-clause-lost_number c = pointer_lacked
 
-pub returns-clause-print : goal.returns-clause-print
-returns-clause-print c = not_printed_in c.parse_law.ensures.not_both
+pub returns-clause-get : goal.returns-clause-get
+returns-clause-get c = not_printed_in c.parse_law.ensures.not_both
 
 pub returns-clause-string : goal.returns-clause-string
 returns-clause-string c = not_read_in c.parse_law.ensures.not_both
@@ -47,11 +47,11 @@ returns-clause-patch c = not_patch c.parse_law.ensures.not_both
 pub returns-clause-apply : goal.returns-clause-apply
 returns-clause-apply c = not_applied c.parse_law.ensures.not_both
 
-pub returns-clause-take_back : goal.returns-clause-take_back
-returns-clause-take_back c = not_patched c.parse_law.ensures.not_both (c.comparing_patch_law.ensures.not_both Numeric)
+pub returns-clause-apply_with_inverse : goal.returns-clause-apply_with_inverse
+returns-clause-apply_with_inverse c = not_patched c.parse_law.ensures.not_both (c.comparing_patch_law.ensures.not_both Numeric)
 
-pub returns-clause-print_in : goal.returns-clause-print_in
-returns-clause-print_in c = not_printed_from c.parse_law.ensures.not_both
+pub returns-clause-resolve : goal.returns-clause-resolve
+returns-clause-resolve c = not_printed_from c.parse_law.ensures.not_both
 
 pub returns-clause-locate : goal.returns-clause-locate
 returns-clause-locate c = not_located c.parse_law.ensures.not_both

@@ -9,8 +9,8 @@ pub returns-in-Ok-clause-refused : goal.returns-in-Ok-clause-refused
 returns-in-Ok-clause-refused c =
     let buffer = c.args.buffer.now in
     let low : c.args.length ≤ length buffer = search rules in
-    let is : c.in-Some.bytes.now ≡ take c.args.length buffer = search rules in
-    let longer : Extends c.in-Some.bytes.now c.args.token.now (text c.in-Ok.longer) = c.in-Ok.ensures.pushed in
+    let is : c.in-Some.pointer.now ≡ take c.args.length buffer = search rules in
+    let longer : Extends c.in-Some.pointer.now c.args.token.now (text c.in-Ok.longer) = c.in-Ok.ensures.pushed in
     let written : c.as_bytes.result.now ≡ text c.in-Ok.longer = search rules in
     if_short c.copy_to.result _ _ _ (length c.as_bytes.result.now) (length buffer) c.copy_to.ensures.copied
     (λ e short. inr (
@@ -26,5 +26,5 @@ returns-in-Ok-clause-refused c =
 pub returns-in-Err-clause-refused : goal.returns-in-Err-clause-refused
 returns-in-Err-clause-refused c =
     let low : c.args.length ≤ length c.args.buffer.now = search rules in
-    let is : c.in-Some.bytes.now ≡ take c.args.length c.args.buffer.now = search rules in
+    let is : c.in-Some.pointer.now ≡ take c.args.length c.args.buffer.now = search rules in
     inr (low, inl (subst (λ (b : List ℕ). IsNotExtended b c.args.token.now c.in-Err.call_error) is c.in-Err.ensures.refused))

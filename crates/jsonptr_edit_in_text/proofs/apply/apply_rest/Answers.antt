@@ -23,7 +23,7 @@ operations-preserved c =
     let mid = string_bytes c.operations.current in
     let new = string_bytes c.in-Some.next in
     let applied = subst (λ (n : Option (String Global)). IfSome n (λ s. OperatesInText mid o.operation (string_bytes s))) c.in-Some.is c.in_ok-next.ensures.applied in
-    let bytes = subst (λ (n : Option (String Global)). IfSome n (λ s. GivenBytes mid o.operation o.text (string_bytes s))) c.in-Some.is c.in_ok-next.ensures.bytes in
+    let bytes = subst (λ (n : Option (String Global)). IfSome n (λ s. GivenBytes mid o.operation o.raw (string_bytes s))) c.in-Some.is c.in_ok-next.ensures.bytes in
     let more : take i ops ++ o ∷ [] ≡ take (i + 1) ops = ap (λ (x : RawOperation). take i ops ++ x ∷ []) c.operation-item.is ∙ sym (take_more ops i o c.operations-test.true) in
     let alone : operations_in (take i ops) ++ o.operation ∷ [] ≡ operations_in (take (i + 1) ops) = sym (operations_push (take i ops) o) ∙ ap operations_in more in (
       λ d reads. subst (λ (os : List Operation). PatchesInText old os new) alone (patches_more old mid new (operations_in (take i ops)) o.operation (c.operations.invariant.0 d reads) applied),

@@ -32,8 +32,8 @@ returns-clause-bytes c =
     let o = c.in-Some.first.now in
     let os = c.in-Some.rest.now in
     let mid = string_bytes c.in-Some-2.next in
-    let first = subst (λ (t : Text). GivenBytes t o.operation o.text mid) c.in_ok-start.ensures.ok
-    (subst (λ (n : Option (String Global)). IfSome n (λ s. GivenBytes (string_bytes c.in_ok-start.start) o.operation o.text (string_bytes s))) c.in-Some-2.is c.in_ok-next.ensures.bytes) in
+    let first = subst (λ (t : Text). GivenBytes t o.operation o.raw mid) c.in_ok-start.ensures.ok
+    (subst (λ (n : Option (String Global)). IfSome n (λ s. GivenBytes (string_bytes c.in_ok-start.start) o.operation o.raw (string_bytes s))) c.in-Some-2.is c.in_ok-next.ensures.bytes) in
     subst (λ (all : List RawOperation). IfOk r (λ n. IfSome n (λ s. RawPatchBytes old all (string_bytes s)))) (sym c.in-Some.ensures.cases.0)
     (if_new r
     (λ s. RawPatchBytes mid os (string_bytes s))

@@ -5,12 +5,12 @@ use Rattle.jsonptr_json_edits.specs.declared.value_text.ValueText.{ValueText}
 use Rattle.jsonptr_edit_in_text.specs.EditInText.{AssignsInText}
 use Rattle.jsonptr_edit_in_text.specs.PrivateReaching.{IsExpanded, ReachedInText, MemberAdded, ElementAppended}
 use Rattle.jsonptr_edit_in_text.proofs.EditLemmas.{if_new, of_member, assigns_member, of_element, assigns_end}
-use Rattle.jsonptr_edit_in_text.specs.Bytes.{GrowsBytes}
+use Rattle.jsonptr_edit_in_text.specs.Bytes.{AddsExpandedBytes}
 use Rattle.jsonptr_edit_in_text.specs.PrivateReaching.{AddsByText}
 use Rattle.json.specs.Lex.{tokens as lexed}
 use Rattle.jsonptr_edit_in_text.specs.Carrying.{value_of_raw, Carries}
 use Rattle.jsonptr_edit_in_text.specs.PrivateWrapping.{wrapped}
-use Rattle.jsonptr_edit_in_text.proofs.BytesLemmas.{grows_bytes}
+use Rattle.jsonptr_edit_in_text.proofs.BytesLemmas.{adds_expanded_bytes}
 use Rattle.jsonptr_edit_in_text.proofs.WrappingLemmas.{carries_wrapped}
 use Rattle.jsonptr_edit_in_text.proofs.assign.assign_child.Goals as goal
 
@@ -38,14 +38,14 @@ returns-then-starts_with-clause-bytes c =
     let after = tokens c.args.missing.now.after in
     if_new c.add_member.result
     (λ s. AddsByText old (string_bytes s) front x flat)
-    (λ s. GrowsBytes old (string_bytes s) front x after v)
-    (λ s h. grows_bytes old (string_bytes s) front x after flat v e.0 e.1 e.2 h)
+    (λ s. AddsExpandedBytes old (string_bytes s) front x after v)
+    (λ s h. adds_expanded_bytes old (string_bytes s) front x after flat v e.0 e.1 e.2 h)
     c.add_member.ensures.bytes
 
 pub returns-then-starts_with-clause-carries : goal.returns-then-starts_with-clause-carries
 returns-then-starts_with-clause-carries c =
     let flat = string_bytes c.in-Some.printed.flat in
-    let given = string_bytes c.args.raw.now.text.flat in
+    let given = string_bytes c.args.raw.now.printed.flat in
     let same = subst (λ (o : Option ValueText). IfSome o (λ t. lexed (string_bytes t.flat) ≡ wrapped (tokens c.args.missing.now.after) (lexed given))) c.in-Some.is c.in_ok-printed.ensures.same in
     if_new c.add_member.result
     (λ s. AddsByText c.args.site.now.text.now (string_bytes s) (tokens c.args.site.now.pointer) c.args.missing.now.token.now flat)
@@ -77,14 +77,14 @@ returns-clause-bytes c =
     let after = tokens c.args.missing.now.after in
     if_new c.append.result
     (λ s. AddsByText old (string_bytes s) front x flat)
-    (λ s. GrowsBytes old (string_bytes s) front x after v)
-    (λ s h. grows_bytes old (string_bytes s) front x after flat v e.0 e.1 e.2 h)
+    (λ s. AddsExpandedBytes old (string_bytes s) front x after v)
+    (λ s h. adds_expanded_bytes old (string_bytes s) front x after flat v e.0 e.1 e.2 h)
     c.append.ensures.bytes
 
 pub returns-clause-carries : goal.returns-clause-carries
 returns-clause-carries c =
     let flat = string_bytes c.in-Some.printed.flat in
-    let given = string_bytes c.args.raw.now.text.flat in
+    let given = string_bytes c.args.raw.now.printed.flat in
     let same = subst (λ (o : Option ValueText). IfSome o (λ t. lexed (string_bytes t.flat) ≡ wrapped (tokens c.args.missing.now.after) (lexed given))) c.in-Some.is c.in_ok-printed.ensures.same in
     if_new c.append.result
     (λ s. AddsByText c.args.site.now.text.now (string_bytes s) (tokens c.args.site.now.pointer) c.args.missing.now.token.now flat)

@@ -4,7 +4,7 @@ use Rattle.jsonptr.specs.Pointer.{tokens}
 use Rattle.jsonptr.specs.Json.{nodes}
 use Rattle.jsonptr_edit_in_text.specs.Carrying.{value_of_raw}
 use Rattle.jsonptr_edit_in_text.specs.EditInText.{AssignsInText}
-use Rattle.jsonptr_edit_in_text.specs.Bytes.{ReplacesBytes, ExpandsBytes, GrowsBytes, AssignsBytes}
+use Rattle.jsonptr_edit_in_text.specs.Bytes.{ReplacesBytes, ExpandsBytes, AddsExpandedBytes, AssignsBytes}
 use Rattle.jsonptr_edit_in_text.proofs.EditLemmas.{if_new}
 use Rattle.jsonptr_edit_in_text.proofs.assign.assign_from.Goals as goal
 
@@ -28,7 +28,7 @@ returns-then-starts_with-2-clause-bytes c =
     let after = tokens c.in-Some.after in
     let v = value_of_raw c.args.raw.now in
     if_new c.assign_child.result
-    (λ s. GrowsBytes old (string_bytes s) front x after v)
+    (λ s. AddsExpandedBytes old (string_bytes s) front x after v)
     (λ s. AssignsBytes old (front ++ tokens c.args.rest) v (string_bytes s))
     (λ s h. inr (front, x, after, ap (λ (ts : List Text). front ++ ts) c.in-Some.ensures, inr h))
     c.assign_child.ensures.bytes

@@ -1,7 +1,7 @@
 use Rattle.std.proofs.Common.{◌≡◌, ◌∷◌, ◌++◌, List, Option, IfSome, string_bytes, refl, subst, ap, ◌∙◌}
 use Rattle.jsonptr.specs.Text.{Text}
 use Rattle.jsonptr.specs.Pointer.{tokens}
-use Rattle.jsonptr.specs.Growing.{grown}
+use Rattle.jsonptr.specs.Expansion.{expanded}
 use Rattle.jsonptr.specs.Json.{nodes}
 use Rattle.jsonptr_json_edits.specs.declared.value_text.ValueText.{ValueText}
 use Rattle.jsonptr_edit_in_text.specs.EditInText.{AssignsInText}
@@ -24,7 +24,7 @@ returns-clause-assigned c = λ x after rest.
     if_new c.replace_scalar.result
     (λ s. ReachedInText c.args.site.now.text.now (string_bytes s) front (ScalarBecomes flat))
     (λ s. AssignsInText c.args.site.now.text.now (front ++ x ∷ after) (nodes (value_of_raw c.args.raw.now)) (string_bytes s))
-    (λ s h. assigns_scalar c.args.site.now.text.now (string_bytes s) (front ++ x ∷ after) front x after e.0 (nodes (value_of_raw c.args.raw.now)) refl (e.2 ∙ ap (λ (ts : List Text). grown ts (nodes (value_of_raw c.args.raw.now))) rest) (of_scalar c.args.site.now.text.now (string_bytes s) front flat e.0 e.1 h))
+    (λ s h. assigns_scalar c.args.site.now.text.now (string_bytes s) (front ++ x ∷ after) front x after e.0 (nodes (value_of_raw c.args.raw.now)) refl (e.2 ∙ ap (λ (ts : List Text). expanded ts (nodes (value_of_raw c.args.raw.now))) rest) (of_scalar c.args.site.now.text.now (string_bytes s) front flat e.0 e.1 h))
     c.replace_scalar.ensures.reached
 
 pub returns-clause-bytes : goal.returns-clause-bytes
@@ -44,7 +44,7 @@ returns-clause-bytes c =
 pub returns-clause-carries : goal.returns-clause-carries
 returns-clause-carries c =
     let flat = string_bytes c.in-Some.printed.flat in
-    let given = string_bytes c.args.raw.now.text.flat in
+    let given = string_bytes c.args.raw.now.printed.flat in
     let same = subst (λ (o : Option ValueText). IfSome o (λ t. lexed (string_bytes t.flat) ≡ wrapped (tokens c.args.rest) (lexed given))) c.in-Some.is c.in_ok-printed.ensures.same in
     if_new c.replace_scalar.result
     (λ s. ReplacesScalarByText c.args.site.now.text.now (string_bytes s) (tokens c.args.site.now.pointer) flat)

@@ -13,7 +13,7 @@ use Rattle.jsonptr_edit_in_text.proofs.assign.assign_there.Goals as goal
 pub returns-clause-assigned : goal.returns-clause-assigned
 returns-clause-assigned c =
     let raw = c.args.raw.now in
-    let flat = string_bytes raw.text.flat in
+    let flat = string_bytes raw.printed.flat in
     if_new c.replace.result
     (λ s. ReachedInText c.args.site.now.text.now (string_bytes s) (tokens c.args.site.now.pointer) (Becomes flat))
     (λ s. AssignsInText c.args.site.now.text.now (tokens c.args.site.now.pointer) (nodes (value_of_raw raw)) (string_bytes s))
@@ -24,7 +24,7 @@ pub returns-clause-bytes : goal.returns-clause-bytes
 returns-clause-bytes c =
     let raw = c.args.raw.now in
     let old = c.args.site.now.text.now in
-    let flat = string_bytes raw.text.flat in
+    let flat = string_bytes raw.printed.flat in
     let ts = tokens c.args.site.now.pointer in
     if_new c.replace.result
     (λ s. ReplacesByText old (string_bytes s) ts flat)
@@ -34,7 +34,7 @@ returns-clause-bytes c =
 
 pub returns-clause-carries : goal.returns-clause-carries
 returns-clause-carries c =
-    let flat = string_bytes c.args.raw.now.text.flat in
+    let flat = string_bytes c.args.raw.now.printed.flat in
     if_new c.replace.result
     (λ s. ReplacesByText c.args.site.now.text.now (string_bytes s) (tokens c.args.site.now.pointer) flat)
     (λ s. Carries flat (string_bytes s))

@@ -24,9 +24,9 @@ returns-in-Some-clause-added c =
     let raw = c.in-Some.raw in
     let is = text_is value c.args.given.raw.now raw c.in-Some.is c.requires in
     if_new c.add_at.result
-    (λ s. AddsInText old ts (string_bytes raw.text.flat) (string_bytes s))
+    (λ s. AddsInText old ts (string_bytes raw.printed.flat) (string_bytes s))
     (λ s. AddsValueInText old ts (nodes (view value)) (string_bytes s))
-    (λ s h. adds_value old (string_bytes s) ts (string_bytes raw.text.flat) (view value) (raw_reads raw ∙ ap (λ (d : Data). Some d) is) h)
+    (λ s h. adds_value old (string_bytes s) ts (string_bytes raw.printed.flat) (view value) (raw_reads raw ∙ ap (λ (d : Data). Some d) is) h)
     c.add_at.ensures.added
 
 pub returns-in-Some-clause-bytes : goal.returns-in-Some-clause-bytes
@@ -37,7 +37,7 @@ returns-in-Some-clause-bytes c =
     let raw = c.in-Some.raw in
     adds_some r old ts c.args.given.value.now c.args.given.raw.now raw c.in-Some.is c.requires
     (if_new r
-    (λ s. AddsAtByText old ts (string_bytes raw.text.flat) (string_bytes s))
+    (λ s. AddsAtByText old ts (string_bytes raw.printed.flat) (string_bytes s))
     (λ s. AddsGiven old ts (value_of_raw raw) (Some raw) (string_bytes s))
     (λ s h. adds_given old (string_bytes s) ts raw h)
     c.add_at.ensures.bytes)

@@ -16,10 +16,10 @@ use Rattle.jsonptr_edit_in_text.proofs.OperatingLemmas.{removes, tests}
 use Rattle.jsonptr_edit_in_text.proofs.operate.operate.Goals as goal
 
 pub add_given-requires : goal.add_given-requires
-add_given-requires c = subst (λ (o : Operation). HasFittingText o c.args.operation.now.text) c.in-Add.is c.args.operation.now.fits
+add_given-requires c = subst (λ (o : Operation). HasFittingText o c.args.operation.now.raw) c.in-Add.is c.args.operation.now.fits
 
 pub replace_given-requires : goal.replace_given-requires
-replace_given-requires c = subst (λ (o : Operation). HasFittingText o c.args.operation.now.text) c.in-Replace.is c.args.operation.now.fits
+replace_given-requires c = subst (λ (o : Operation). HasFittingText o c.args.operation.now.raw) c.in-Replace.is c.args.operation.now.fits
 
 pub returns-in-Add-clause-applied : goal.returns-in-Add-clause-applied
 returns-in-Add-clause-applied c =
@@ -60,7 +60,7 @@ pub returns-in-Add-clause-bytes : goal.returns-in-Add-clause-bytes
 returns-in-Add-clause-bytes c =
     let r = c.add_given.result in
     let old = c.as_str-old.result.now in
-    let raw = c.args.operation.now.text in
+    let raw = c.args.operation.now.raw in
     let v = view c.in-Add.value in
     subst (λ (o : Operation). IfOk r (λ n. IfSome n (λ s. GivenBytes (string_bytes c.args.text) o raw (string_bytes s)))) (sym c.in-Add.is)
     (subst (λ (t : Text). IfOk r (λ n. IfSome n (λ s. AddsGiven t c.in-Add.path v raw (string_bytes s)))) c.as_str-old.ensures.value
@@ -70,7 +70,7 @@ pub returns-in-Remove-clause-bytes : goal.returns-in-Remove-clause-bytes
 returns-in-Remove-clause-bytes c =
     let r = c.cut_out.result in
     let old = c.as_str-old.result.now in
-    let raw = c.args.operation.now.text in
+    let raw = c.args.operation.now.raw in
     subst (λ (o : Operation). IfOk r (λ n. IfSome n (λ s. GivenBytes (string_bytes c.args.text) o raw (string_bytes s)))) (sym c.in-Remove.is)
     (subst (λ (t : Text). IfOk r (λ n. IfSome n (λ s. DeletesBytes t c.in-Remove.path (string_bytes s)))) c.as_str-old.ensures.value
     (subst (λ (ts : List Text). IfOk r (λ n. IfSome n (λ s. DeletesBytes old ts (string_bytes s)))) c.as_ptr-in-Remove.ensures.tokens c.cut_out.ensures.bytes))
@@ -79,7 +79,7 @@ pub returns-in-Replace-clause-bytes : goal.returns-in-Replace-clause-bytes
 returns-in-Replace-clause-bytes c =
     let r = c.replace_given.result in
     let old = c.as_str-old.result.now in
-    let raw = c.args.operation.now.text in
+    let raw = c.args.operation.now.raw in
     let v = view c.in-Replace.value in
     subst (λ (o : Operation). IfOk r (λ n. IfSome n (λ s. GivenBytes (string_bytes c.args.text) o raw (string_bytes s)))) (sym c.in-Replace.is)
     (subst (λ (t : Text). IfOk r (λ n. IfSome n (λ s. ReplacesGiven t c.in-Replace.path v raw (string_bytes s)))) c.as_str-old.ensures.value
@@ -89,7 +89,7 @@ pub returns-in-Move-clause-bytes : goal.returns-in-Move-clause-bytes
 returns-in-Move-clause-bytes c =
     let r = c.move_value.result in
     let old = c.as_str-old.result.now in
-    let raw = c.args.operation.now.text in
+    let raw = c.args.operation.now.raw in
     let from = tokens c.as_ptr-in-Move.result in
     subst (λ (o : Operation). IfOk r (λ n. IfSome n (λ s. GivenBytes (string_bytes c.args.text) o raw (string_bytes s)))) (sym c.in-Move.is)
     (subst (λ (t : Text). IfOk r (λ n. IfSome n (λ s. MovesBytes t c.in-Move.from c.in-Move.path (string_bytes s)))) c.as_str-old.ensures.value
@@ -100,7 +100,7 @@ pub returns-in-Copy-clause-bytes : goal.returns-in-Copy-clause-bytes
 returns-in-Copy-clause-bytes c =
     let r = c.copy_value.result in
     let old = c.as_str-old.result.now in
-    let raw = c.args.operation.now.text in
+    let raw = c.args.operation.now.raw in
     let from = tokens c.as_ptr-in-Copy.result in
     subst (λ (o : Operation). IfOk r (λ n. IfSome n (λ s. GivenBytes (string_bytes c.args.text) o raw (string_bytes s)))) (sym c.in-Copy.is)
     (subst (λ (t : Text). IfOk r (λ n. IfSome n (λ s. CopiesBytes t c.in-Copy.from c.in-Copy.path (string_bytes s)))) c.as_str-old.ensures.value
@@ -108,4 +108,4 @@ returns-in-Copy-clause-bytes c =
     (subst (λ (ts : List Text). IfOk r (λ n. IfSome n (λ s. CopiesBytes old from ts (string_bytes s)))) c.as_ptr-in-Copy-2.ensures.tokens c.copy_value.ensures.bytes)))
 
 pub returns-then-branch-clause-bytes : goal.returns-then-branch-clause-bytes
-returns-then-branch-clause-bytes c = subst (λ (o : Operation). GivenBytes (string_bytes c.args.text) o c.args.operation.now.text (string_bytes c.args.text)) (sym c.in-Test.is) refl
+returns-then-branch-clause-bytes c = subst (λ (o : Operation). GivenBytes (string_bytes c.args.text) o c.args.operation.now.raw (string_bytes c.args.text)) (sym c.in-Test.is) refl

@@ -25,9 +25,9 @@ returns-in-Some-clause-put c =
     let raw = c.in-Some.raw in
     let is = text_is value c.args.given.raw.now raw c.in-Some.is c.requires in
     if_new c.replace_at.result
-    (λ s. ReachedInText old (string_bytes s) ts (Becomes (string_bytes raw.text.flat)))
+    (λ s. ReachedInText old (string_bytes s) ts (Becomes (string_bytes raw.printed.flat)))
     (λ s. PutsInText old ts (nodes (view value)) (string_bytes s))
-    (λ s h. puts old (string_bytes s) ts (string_bytes raw.text.flat) (view value) (raw_reads raw ∙ ap (λ (d : Data). Some d) is) h)
+    (λ s h. puts old (string_bytes s) ts (string_bytes raw.printed.flat) (view value) (raw_reads raw ∙ ap (λ (d : Data). Some d) is) h)
     c.replace_at.ensures.reached
 
 pub returns-in-Some-clause-bytes : goal.returns-in-Some-clause-bytes
@@ -38,7 +38,7 @@ returns-in-Some-clause-bytes c =
     let raw = c.in-Some.raw in
     replaces_some r old ts c.args.given.value.now c.args.given.raw.now raw c.in-Some.is c.requires
     (if_new r
-    (λ s. ReplacesByText old (string_bytes s) ts (string_bytes raw.text.flat))
+    (λ s. ReplacesByText old (string_bytes s) ts (string_bytes raw.printed.flat))
     (λ s. ReplacesGiven old ts (value_of_raw raw) (Some raw) (string_bytes s))
     (λ s h. replaces_given old (string_bytes s) ts raw h)
     c.replace_at.ensures.bytes)

@@ -18,6 +18,6 @@ pub returns-clause-same : goal.returns-clause-same
 returns-clause-same c =
     let ts = tokens c.args.pointer in
     let flat = string_bytes c.in-Some.flat in
-    let raw = string_bytes c.args.raw.now.text.flat in
+    let raw = string_bytes c.args.raw.now.printed.flat in
     let same = subst (λ (o : Option (String Global)). IfSome o (λ s. lexed (string_bytes s) ≡ wrapped ts (lexed c.as_str.result.now))) c.in-Some.is c.in_ok-flat.ensures in
     tokens_if c.lay_out.result flat (wrapped ts (lexed raw)) (subst (λ (t : Text). lexed flat ≡ wrapped ts (lexed t)) c.as_str.ensures.value same) c.lay_out.ensures.same

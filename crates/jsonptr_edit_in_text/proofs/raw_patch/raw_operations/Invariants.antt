@@ -6,5 +6,5 @@ use Rattle.jsonptr_edit_in_text.proofs.raw_patch.raw_operations.Given as goal
 
 abbrev pub invariant-loop-operation : goal.invariant-loop-operation
 invariant-loop-operation l =
-    (operations_in l.raws.items ++ into_iter_items l.operation-iterator ≡ l.fn.operations.items)
-    × All (IsGivenIn l.text) l.raws.items
+    (operations_in l.raw_operations.items ++ into_iter_items l.operation-iterator ≡ l.fn.operations.items)
+    × All (IsGivenIn l.text) l.raw_operations.items

@@ -10,7 +10,7 @@ use Rattle.jsonptr_edit_in_text.proofs.value_at.value_at.Goals as goal
 pub returns-then-branch : goal.returns-then-branch
 returns-then-branch c =
     let text = c.args.text.now in
-    let flat = string_bytes c.in_ok-value.value.flat in
+    let flat = string_bytes c.in_ok-printed.printed.flat in
     let items = c.in_ok-selectors.selectors.items in
     finds_text text (tokens c.args.pointer) (choices items) flat c.in_ok-selectors.ensures
     (subst (λ (ss : List Selector). LeadsInText text (choices ss) flat) c.deref-2.ensures.value

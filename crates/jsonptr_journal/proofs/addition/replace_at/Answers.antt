@@ -20,4 +20,4 @@ returns-in-Ok-clause-replaced g c =
     }
 
 pub returns-in-Err-clause-refused : goal.returns-in-Err-clause-refused
-returns-in-Err-clause-refused g c = stops_nothing (map_of (g.D.NodeMut.contents c.args.document.now)) c.args.path.now c.in-Err._error.offset (c.in-Err.ensures.value.1 c.requires)
+returns-in-Err-clause-refused g c = stops_nothing (map_of (g.D.NodeMut.contents c.args.document.now)) c.args.pointer.now c.in-Err._error.offset (c.in-Err.ensures.value.1 c.requires)

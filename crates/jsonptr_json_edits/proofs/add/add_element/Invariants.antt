@@ -10,7 +10,7 @@ invariant-elements l =
     × ItemsSoFar l.depth l.initial.readers.one l.readers.one ds
     × ItemsSoFar l.depth l.initial.readers.two l.readers.two ds2
     × (l.count ≡ length ds2)
-    × ItemsAdded l.is_done l.index l.value ds ds2
+    × ItemsAdded l.is_done l.index l.json ds ds2
     × (length l.readers.one ≤ length l.initial.readers.one)
     × (length l.readers.two ≤ length l.initial.readers.two)
 

@@ -19,12 +19,12 @@ members-preserved c =
     let less = c.in_ok-visit_member.ensures.two_shorter in
     let short = c.in_ok-visit_member.ensures.one_shorter in
     let may : c.may_follow.result ≡ true = grind arith in
-    let next = members_after c.members.is_done c.is_at-wanted.result c.is_text-named.result c.args.member.key.now c.in-Some.name.now c.args.depth c.args.value.now c.args.readers.now.one c.members.readers.one c.visit_member.new.readers.one i.0 i.1 r.0 i.2 i.4 r.2 c.is_text-named.ensures (c.may_follow.ensures may) in (
+    let next = members_after c.members.is_done c.is_at-wanted.result c.is_text-named.result c.args.member.key.now c.in-Some.name.now c.args.depth c.args.json.now c.args.readers.now.one c.members.readers.one c.visit_member.new.readers.one i.0 i.1 r.0 i.2 i.4 r.2 c.is_text-named.ensures (c.may_follow.ensures may) in (
       next.0,
       put c.in-Some.name.now r.0 i.1,
       next.1,
       members_go_on c.args.depth c.args.readers.now.two c.members.readers.two c.next_key.new.self c.visit_member.new.readers.two c.in-Some.name.now r.0 i.1 i.3 named r.1 (omega (arith, less, passed)),
-      subst (λ (b : Bool). MembersAdded b c.args.member.key.now c.args.value.now next.0 (put c.in-Some.name.now r.0 i.1)) (sym c.is_either-is_done.ensures) next.2,
+      subst (λ (b : Bool). MembersAdded b c.args.member.key.now c.args.json.now next.0 (put c.in-Some.name.now r.0 i.1)) (sym c.is_either-is_done.ensures) next.2,
       omega (arith, i.5, short),
       omega (arith, i.6, less, passed),
     )
@@ -33,7 +33,7 @@ pub returns-clause-passed : goal.returns-clause-passed
 returns-clause-passed c =
     let i = c.members.invariant in
     let done : c.members.is_done ≡ true = grind arith in
-    let h = subst (λ (b : Bool). MembersAdded b c.args.member.key.now c.args.value.now i.0 i.1) done i.4 in (
+    let h = subst (λ (b : Bool). MembersAdded b c.args.member.key.now c.args.json.now i.0 i.1) done i.4 in (
       i.0,
       i.1,
       h.0,

@@ -9,7 +9,7 @@ invariant-members l =
     (ms ms2 : Members)
     × MembersSoFar l.depth l.initial.readers.one l.readers.one ms
     × MembersSoFar l.depth l.initial.readers.two l.readers.two ms2
-    × MembersAdded l.is_done l.member.key.now l.value ms ms2
+    × MembersAdded l.is_done l.member.key.now l.json ms ms2
     × (length l.readers.one ≤ length l.initial.readers.one)
     × (length l.readers.two ≤ length l.initial.readers.two)
 

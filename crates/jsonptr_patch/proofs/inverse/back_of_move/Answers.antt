@@ -15,14 +15,14 @@ use Rattle.jsonptr_patch.proofs.PlaceLemmas.{named_there}
 use Rattle.jsonptr_patch.proofs.inverse.back_of_move.Goals as goal
 
 pub returns-then-diverges-clause-back : goal.returns-then-diverges-clause-back
-returns-then-diverges-clause-back c = ok_all c.back_of_way.result _ _
+returns-then-diverges-clause-back c = ok_all c.back_of_diverging_move.result _ _
     (λ h. (h.1, way_taken_back (nodes (view c.args.document.now)) (tokens c.args.from) (tokens c.args.path) (path_of c.in_ok-location.location) h.0 h.1 (c.diverges.ensures c.if-diverges.true) c.in_ok-location.ensures.found h.2 h.3, h.4))
-    c.back_of_way.ensures.back
+    c.back_of_diverging_move.ensures.back
 
 pub returns-then-diverges-clause-refused : goal.returns-then-diverges-clause-refused
-returns-then-diverges-clause-refused c = refused_all c.back_of_way.result _ _
+returns-then-diverges-clause-refused c = refused_all c.back_of_diverging_move.result _ _
     (λ e. way_add_refused (nodes (view c.args.document.now)) c.args.turn.number (tokens c.args.from) (tokens c.args.path) (path_of c.in_ok-location.location) e (c.diverges.ensures c.if-diverges.true) c.in_ok-location.ensures.found)
-    c.back_of_way.ensures.refused
+    c.back_of_diverging_move.ensures.refused
 
 pub back_in_left-requires : goal.back_in_left-requires
 back_in_left-requires c = named_there (contents_of c.args.document.now) (tokens c.args.from) (path_of c.in_ok-location.location) c.in_ok-location.ensures.found

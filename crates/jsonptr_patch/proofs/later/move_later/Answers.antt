@@ -17,7 +17,7 @@ returns-in-Ok-clause-moved c =
     let b = (rw c.in-Some.is at c.in_ok-source.ensures.taken).blank in
     let one : Later = record { path = c.args.from; location = c.in_ok-kept.kept } in
     let reached = member_kept (nodes (view c.args.document.now)) c.args.from b.path c.in_ok-kept.kept b.named c.in_ok-kept.ensures in
-    waits_moved c.args.document.now c.take_source.new.document c.add_taken.new.document c.in-Some.field-0.value (tokens c.args.path) b.path c.args.run.now.later.items c.push_reserved.new.self.items one c.requires.member b.named reached c.requires.apart c.requires.ways b.written c.in-Ok.ensures.added
+    waits_moved c.args.document.now c.take_source.new.document c.add_taken.new.document c.in-Some.field-0.value (tokens c.args.path) b.path c.args.run.now.later.items c.push_reserved.new.self.items one c.requires.member b.named reached c.requires.apart c.requires.diverges b.written c.in-Ok.ensures.added
     (c.push_reserved.ensures.items ∙ ap (λ (ls : List Later). ls ++ one ∷ []) c.in_ok-make_room.ensures.items)
 
 pub returns-in-Ok-clause-sorted : goal.returns-in-Ok-clause-sorted
@@ -30,7 +30,7 @@ pub returns-in-Err-clause-refused : goal.returns-in-Err-clause-refused
 returns-in-Err-clause-refused c =
     let b = (rw c.in-Some.is at c.in_ok-source.ensures.taken).blank in
     for_refused (Unit {0}) c.in-Err.field-0.fault _ (λ e. (n : NodeMap) → IsPending (nodes (view c.args.document.now)) c.args.run.now.later.items n → RefusesMove n c.args.turn.number c.args.from (tokens c.args.path) e)
-    (λ e. waits_move_refused c.args.document.now c.take_source.new.document c.in-Some.field-0.value c.args.turn.number c.args.from (tokens c.args.path) b.path c.args.run.now.later.items e c.requires.member b.named c.requires.apart c.requires.ways b.written)
+    (λ e. waits_move_refused c.args.document.now c.take_source.new.document c.in-Some.field-0.value c.args.turn.number c.args.from (tokens c.args.path) b.path c.args.run.now.later.items e c.requires.member b.named c.requires.apart c.requires.diverges b.written)
     c.in-Err.ensures.refused
 
 pub returns-in-None-clause-moved : goal.returns-in-None-clause-moved

@@ -16,10 +16,10 @@ use Rattle.jsonptr_patch.proofs.OperatingLemmas.{for_refused}
 use Rattle.jsonptr_patch.proofs.move_value.move_member.Goals as goal
 
 pub remove_last-requires : goal.remove_last-requires
-remove_last-requires c = alone_there c.args.document.now c.blank.new.document c.add_taken_last.new.document c.in-Some.value (tokens c.args.from) (tokens c.args.path) c.args.location c.requires.member c.requires.ways c.in-Some.ensures c.in-Ok.ensures.added
+remove_last-requires c = alone_there c.args.document.now c.blank.new.document c.add_taken_last.new.document c.in-Some.value (tokens c.args.from) (tokens c.args.path) c.args.location c.requires.member c.requires.diverges c.in-Some.ensures c.in-Ok.ensures.added
 
 pub returns-in-Ok-clause-moved : goal.returns-in-Ok-clause-moved
-returns-in-Ok-clause-moved c = alone_moved c.args.document.now c.blank.new.document c.add_taken_last.new.document c.remove_last.new.document c.in-Some.value (contents_of c.remove_last.result) (tokens c.args.from) (tokens c.args.path) c.args.location c.requires.member c.requires.ways c.in-Some.ensures c.in-Ok.ensures.added c.remove_last.ensures
+returns-in-Ok-clause-moved c = alone_moved c.args.document.now c.blank.new.document c.add_taken_last.new.document c.remove_last.new.document c.in-Some.value (contents_of c.remove_last.result) (tokens c.args.from) (tokens c.args.path) c.args.location c.requires.member c.requires.diverges c.in-Some.ensures c.in-Ok.ensures.added c.remove_last.ensures
 
 pub returns-in-Ok-clause-sorted : goal.returns-in-Ok-clause-sorted
 returns-in-Ok-clause-sorted c = λ s.
@@ -36,7 +36,7 @@ undo_removal-requires c = (
 
 pub returns-in-Err-clause-refused : goal.returns-in-Err-clause-refused
 returns-in-Err-clause-refused c = for_refused (Unit {0}) c.in-Err.field-0.fault _ (RefusesMove (nodes (view c.args.document.now)) c.args.turn.number (tokens c.args.from) (tokens c.args.path))
-    (λ e. alone_refused c.args.document.now c.blank.new.document c.in-Some.value c.args.turn.number (tokens c.args.from) (tokens c.args.path) c.args.location e c.requires.member c.requires.ways c.in-Some.ensures)
+    (λ e. alone_refused c.args.document.now c.blank.new.document c.in-Some.value c.args.turn.number (tokens c.args.from) (tokens c.args.path) c.args.location e c.requires.member c.requires.diverges c.in-Some.ensures)
     c.in-Err.ensures.refused
 
 pub returns-in-Err-clause-unchanged : goal.returns-in-Err-clause-unchanged

@@ -21,5 +21,5 @@ loop-call-preserved g c =
       paired = simp length-append (omega (arith, held.paired, len));
       ran = rw items (simp map-append (run_on g.D.SessionDocument.blank _ _ _ _ _ _ _ held.ran c.turn-reply.ensures.steps));
       order = λ all ordered. c.turn-reply.ensures.sorted (brought all) (held.order all ordered);
-      given_sorted = λ all ordered. rw items (All-push (ReplyHas g.D.SessionDocument.has_sorted_keys) _ _ (held.given_sorted all ordered) (c.turn-reply.ensures.given_sorted (held.order all ordered)));
+      returned_sorted = λ all ordered. rw items (All-push (ReplyHas g.D.SessionDocument.has_sorted_keys) _ _ (held.returned_sorted all ordered) (c.turn-reply.ensures.returned_sorted (held.order all ordered)));
     }

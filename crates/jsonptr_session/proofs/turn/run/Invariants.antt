@@ -19,6 +19,6 @@ invariant-loop-call g l = record {
       (record { tokens = g.P.EditPointer.list l.pointer; nodes = g.D.SessionDocument.nodes l.document });
   order : All (CallHas g.D.SessionDocument.has_sorted_keys) l.fn.calls.items
       → g.D.SessionDocument.has_sorted_keys l.initial.document → g.D.SessionDocument.has_sorted_keys l.document;
-  given_sorted : All (CallHas g.D.SessionDocument.has_sorted_keys) l.fn.calls.items
+  returned_sorted : All (CallHas g.D.SessionDocument.has_sorted_keys) l.fn.calls.items
       → g.D.SessionDocument.has_sorted_keys l.initial.document → All (ReplyHas g.D.SessionDocument.has_sorted_keys) l.replies.items;
 }

@@ -1,7 +1,7 @@
 use Rattle.std.proofs.lemmas.Result.{IfOk-weaker}
 use Rattle.serde_json.specs.View.{view}
 use Rattle.jsonptr.specs.Json.{content, nodes}
-use Rattle.jsonptr.specs.Growing.{grown}
+use Rattle.jsonptr.specs.Expansion.{expanded}
 use Rattle.jsonptr.specs.Assigning.{with_room}
 use Rattle.jsonptr.proofs.Calling.{map_of-IsTree, Assigns-Finds}
 use Rattle.jsonptr_uses.proofs.SettingsLemmas.{assigned_apart, set_at, nothing_apart}
@@ -29,7 +29,7 @@ returns-clause-location c =
     (map_of-IsTree (content (view c.args.top.now)))
     (map_of-IsTree (content (view c.assign_json.new.document)))
     (map_of-IsTree (content (view c.args.value))).root
-    ((c.put_law.ensures.whole (with_room n assigned.path) assigned.path (grown assigned.left v) m).0 assigned.made))
+    ((c.put_law.ensures.whole (with_room n assigned.path) assigned.path (expanded assigned.left v) m).0 assigned.made))
     c.assign_json.ensures.assigned
 
 pub returns-clause-nothing : goal.returns-clause-nothing

@@ -1,6 +1,6 @@
 use Rattle.std.proofs.Common.{ℕ, Some, ap, ◌∙◌, sym, refl}
 use Rattle.jsonptr_tree.specs.Node.{an_array}
-use Rattle.jsonptr_tree.specs.Growing.{grown}
+use Rattle.jsonptr_tree.specs.Expansion.{expanded}
 use Rattle.jsonptr_syntax.specs.PointerText.{tokens}
 use Rattle.jsonptr_walk.proofs.AssignLemmas.{lacks_place, leaf_below, object_below, array_below}
 use Rattle.jsonptr_walk.proofs.put.put_child.Goals as goal
@@ -20,7 +20,7 @@ pub returns-in_ok-insert_member-in-Object-clause-assigned : goal.returns-in_ok-i
 returns-in_ok-insert_member-in-Object-clause-assigned g c =
     let nodes = g.N.Document.nodes in let n = c.args.node.now in
     let rest = tokens c.args.stop.now.rest in let v = nodes c.args.value in
-    object_below (nodes n) c.args.stop.now.token rest v (g.met.N.Document.has_root n) c.requires c.args.stop.now.token (nodes c.insert_member.new.node) (grown rest v) c.in-Object.ensures.0
+    object_below (nodes n) c.args.stop.now.token rest v (g.met.N.Document.has_root n) c.requires c.args.stop.now.token (nodes c.insert_member.new.node) (expanded rest v) c.in-Object.ensures.0
     refl refl c.in_ok-insert_member-in-Object.ensures.inserted
 
 pub returns-in_ok-push_element-in-Array-clause-assigned : goal.returns-in_ok-push_element-in-Array-clause-assigned
@@ -28,5 +28,5 @@ returns-in_ok-push_element-in-Array-clause-assigned g c =
     let nodes = g.N.Document.nodes in let n = c.args.node.now in
     let rest = tokens c.args.stop.now.rest in let v = nodes c.args.value in let len = c.len-length.result in
     let root = c.in-Array.ensures.0 ∙ ap (λ (k : ℕ). Some (an_array k)) (sym (c.len-length.ensures ∙ c.in-Array.elements.now.ok.0)) in
-    array_below (nodes n) c.args.stop.now.token rest v (g.met.N.Document.has_root n) c.requires len (nodes c.push_element.new.node) (grown rest v) (g.met.N.DocumentMut.is_tree n) root
+    array_below (nodes n) c.args.stop.now.token rest v (g.met.N.Document.has_root n) c.requires len (nodes c.push_element.new.node) (expanded rest v) (g.met.N.DocumentMut.is_tree n) root
     c.in_ok-push_element-in-Array.ensures.end refl (c.in_ok-push_element-in-Array.ensures.pushed len root)

@@ -37,5 +37,5 @@ returns-in-Ok-clause-no_memory g c = λ needs.
     let none = nowhere_below c.requires (tokens c.in-Some.front) c.in-Some.token (tokens c.in-Some.rest) c.in-Some.ensures c.in-Ok.ensures.value.0 needs in
     c.put_child.ensures.no_memory none.0 none.1 none.2
 
-pub returns-in-Err-Memory-clause-no_memory : goal.returns-in-Err-Memory-clause-no_memory
-returns-in-Err-Memory-clause-no_memory g c = λ needs. (rw c.in-Err-Memory.field-0-is at c.in-Err-Memory.ensures.value.2) (plain_before (tokens c.args.route) (tokens c.in-Some.front) c.in-Some.token (tokens c.in-Some.rest) c.in-Some.ensures needs.plain)
+pub returns-clause-no_memory : goal.returns-clause-no_memory
+returns-clause-no_memory g c = λ needs. (rw c.in-Err-Memory.field-0-is at c.in-Err-Memory.ensures.value.2) (plain_before (tokens c.args.route) (tokens c.in-Some.front) c.in-Some.token (tokens c.in-Some.rest) c.in-Some.ensures needs.plain)

@@ -35,10 +35,10 @@ returns-clause-removed c = elim c.match-self.branch [
         let vs = x.in-Array-Element.elements in let i = x.in-Array-Element.index in
         let same : w.in_default.self ≡ c.args.self.now = search (rules, the_lemmas, x.self-is) in
         let long : length vs.items ≤ i = search (rules, the_lemmas, vs.ok.0) in
-        rw (w.self-is, same, w.result-is) (rw x.in-Array-Element.is-0 (array-lacks content_of Array array_is vs c.args.way.now (λ j is. let both = sym x.in-Array-Element.is-1 ∙ is in let one : i ≡ j = cc in omega arith)), refl)
-    | in_default-via-in-Array+in_default x ↦ rw (w.self-is, x.self-is, w.result-is) (rw x.in_default.is-0 (array-lacks content_of Array array_is x.in_default.field-0-0 c.args.way.now (λ i is. absurd (x.in_default.not-Element-1 i is))), refl)
-    | in_default-via-in-Table+in_default x ↦ rw (w.self-is, x.self-is, w.result-is) (rw x.in_default.is-0 (object-lacks content_of Table object_is x.in_default.field-0-0 c.args.way.now x.in_default.not-Member-1), refl)
-    | in_default-via-in_default x ↦ rw (w.self-is, x.self-is, w.result-is) (leaf-lacks content_of c.args.self.now c.args.way.now (leaf_of c.args.self.now x.in_default.not-Array-0 x.in_default.not-Table-0), refl)
+        rw (w.self-is, same, w.result-is) (rw x.in-Array-Element.is-0 (array-lacks content_of Array array_is vs c.args.child.now (λ j is. let both = sym x.in-Array-Element.is-1 ∙ is in let one : i ≡ j = cc in omega arith)), refl)
+    | in_default-via-in-Array+in_default x ↦ rw (w.self-is, x.self-is, w.result-is) (rw x.in_default.is-0 (array-lacks content_of Array array_is x.in_default.field-0-0 c.args.child.now (λ i is. absurd (x.in_default.not-Element-1 i is))), refl)
+    | in_default-via-in-Table+in_default x ↦ rw (w.self-is, x.self-is, w.result-is) (rw x.in_default.is-0 (object-lacks content_of Table object_is x.in_default.field-0-0 c.args.child.now x.in_default.not-Member-1), refl)
+    | in_default-via-in_default x ↦ rw (w.self-is, x.self-is, w.result-is) (leaf-lacks content_of c.args.self.now c.args.child.now (leaf_of c.args.self.now x.in_default.not-Array-0 x.in_default.not-Table-0), refl)
   ]
 ]
 

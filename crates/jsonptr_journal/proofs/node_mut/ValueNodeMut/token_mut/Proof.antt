@@ -45,7 +45,7 @@ use Rattle.jsonptr.specs.Text.{Text, HasNoTilde, text}
 use Rattle.jsonptr.specs.Node.{Path, Names}
 use Rattle.jsonptr.specs.Content.{map_of, FindsContent}
 use Rattle.jsonptr_journal.specs.Location.{contents_of}
-use Rattle.jsonptr_journal.specs.PrivateTokenStep.{MovesTo, MovesBack, IsLost, LendsMove}
+use Rattle.jsonptr_journal.specs.PrivateTokenStep.{MovesByToken, MovesBackByToken, IsLostAtToken, LendsTokenMove}
 use Rattle.jsonptr_journal.specs.Writing.{write_at}
 use Rattle.jsonptr_walk.specs.PrivateDescend.{Begins}
 use Rattle.jsonptr_journal.specs.Leading.{StopsAtOffset}
@@ -185,10 +185,10 @@ module _ {M : Type 1} {𝓤 : Ura M} (𝓛 : Logic 𝓤) (𝓜 : Model 𝓤 𝓛
     Nearer t u = length (text all) - t.0 < length (text all) - u.0
 
     abbrev Lends : MutBor D → ℕ → Rt.Denot → Fml
-    Lends x i r = LendsMove R (λ v. v) x all i r
+    Lends x i r = LendsTokenMove R (λ v. v) x all i r
 
     abbrev Gives : MutBor D → ℕ → Rt.Denot → Type 0
-    Gives x i r = IfOk r (λ t. MovesTo all i t.down x.now t.next t.node.now) × IfErr r (λ e. (e.offset ≡ i) × IsLost all i x.now)
+    Gives x i r = IfOk r (λ t. MovesByToken all i t.down x.now t.next t.node.now) × IfErr r (λ e. (e.offset ≡ i) × IsLostAtToken all i x.now)
 
     module _ (l : ℕ → ℕ) where
       abbrev En : Env 𝓤 H
@@ -222,7 +222,7 @@ module _ {M : Type 1} {𝓤 : Ura M} (𝓛 : Logic 𝓤) (𝓜 : Model 𝓤 𝓛
           move ! (2 ∷ 0 ∷ 4 ∷ 1 ∷ 3 ∷ []) $
           by_result r
           (λ lent is. rewrite ! 0 (λ (u : Rt.Denot). ‵ (Rt.own_val u (v ∷ []))) is refl $ rewrite ! 1 (λ (u : Rt.Denot). ‵ (Lends x i u)) is refl $
-          let here : MovesTo all i lent.down x.now lent.next lent.node.now = (subst (Gives x i) is gives).0 in
+          let here : MovesByToken all i lent.down x.now lent.next lent.node.now = (subst (Gives x i) is gives).0 in
           let fn : lent.next < 2 ^ 64 = move_fits all i lent.down x.now lent.next lent.node.now here in
           use1 𝓛 (given (v ≡ live 0 (vcons (moved_val lent) vnil)) (‵ (Ref lent.node))) (ok_out 𝓛 NL R Why lent v) $ learn ! (λ told.
           move ! (1 ∷ []) $ fpick ! (λ s. let G' : D → D = s.0.0 in let K : D → D = λ m. F (G' m) in
@@ -237,8 +237,8 @@ module _ {M : Type 1} {𝓤 : Ura M} (𝓛 : Logic 𝓤) (𝓜 : Model 𝓤 𝓛
           sets ! (un ! (get ! refl) tt) refl (tt, tt) $
           first ! $ branches ! (get ! refl)
           (λ stops. let down = off lent.down stops in
-          let none = subst (λ d. MovesTo all i d x.now lent.next lent.node.now) down here in
-          let back = λ (m : D). subst (λ d. MovesBack all i d x.now m (G' m)) down (s.1 m) in
+          let none = subst (λ d. MovesByToken all i d x.now lent.next lent.node.now) down here in
+          let back = λ (m : D). subst (λ d. MovesBackByToken all i d x.now m (G' m)) down (s.1 m) in
           let kept' : Kept lent.node.now K i = λ plain. trail_here all doc.now x.now F i (kept plain) lent.node.now G' none.2 back in
           move ! (3 ∷ []) $ drop ! $
           sets ! (addr ! (through ! refl (stop !))) refl (tt, tt) $
@@ -246,8 +246,8 @@ module _ {M : Type 1} {𝓤 : Ura M} (𝓛 : Logic 𝓤) (𝓜 : Model 𝓤 𝓛
           returns_within ! Post refl (look_at ! 0 refl) $ free_all ! refl $
           by ! (arrived lent.node K i kept' none.1))
           (λ goes. let down = on lent.down goes in
-          let step = subst (λ d. MovesTo all i d x.now lent.next lent.node.now) down here in
-          let back = λ (m : D). subst (λ d. MovesBack all i d x.now m (G' m)) down (s.1 m) in
+          let step = subst (λ d. MovesByToken all i d x.now lent.next lent.node.now) down here in
+          let back = λ (m : D). subst (λ d. MovesBackByToken all i d x.now m (G' m)) down (s.1 m) in
           let kept' : Kept lent.node.now K lent.next = λ plain. trail_more all doc.now x.now F i (kept plain) lent.node.now G' lent.next plain step back in
           let farther : i < lent.next = step.1 in
           let within : lent.next ≤ length (text all) = step.2 in
@@ -258,7 +258,7 @@ module _ {M : Type 1} {𝓤 : Ura M} (𝓛 : Logic 𝓤) (𝓜 : Model 𝓤 𝓛
           again ! Nearer Now t (lent.next, lent.node, K, fn, kept') (omega (arith, farther, within))))))
           (λ e is. rewrite ! 0 (λ (u : Rt.Denot). ‵ (Rt.own_val u (v ∷ []))) is refl $ rewrite ! 1 (λ (u : Rt.Denot). ‵ (Lends x i u)) is refl $
           let told : Gives x i (Err e) = subst (Gives x i) is gives in
-          let lost : IsLost all i x.now = told.1.1 in
+          let lost : IsLostAtToken all i x.now = told.1.1 in
           let stopped : Stopped (Err e) = (tt, λ plain. subst (λ (n : ℕ). StopsAtOffset (map_of (contents_of doc.now)) all n) (sym told.1.0) (trail_lost all doc.now x.now F i (kept plain) plain lost)) in
           use1 𝓛 (some (λ (ev : Val). given ((v ≡ live 1 (vcons ev vnil)) × (T (has_ty Whyτ ev) × WT ev)) (‵ (Why.own_val e (ev ∷ []))))) (err_out 𝓛 LR Why Whyτ refl (error_laws.the_row_laws.lawful 𝓛) e v) $ pick ! (λ ev. learn ! (λ told. move ! (1 ∷ []) $ fpick ! (λ s. move ! (1 ∷ []) $
           -- [the fault; the last value of x; what the document follows; the tokens; the way]

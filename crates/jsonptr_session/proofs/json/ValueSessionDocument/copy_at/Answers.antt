@@ -6,5 +6,5 @@ use Rattle.jsonptr_session.proofs.json.ValueSessionDocument.copy_at.Goals as goa
 pub returns-clause-found : goal.returns-clause-found
 returns-clause-found c = found_copy view content _ _ _ _ c.in_ok-resolve.ensures.found c.in_ok-clone.ensures.cases
 
-pub returns-clause-given_sorted : goal.returns-clause-given_sorted
-returns-clause-given_sorted c = copy_ordered view content _ _ _ _ c.in_ok-resolve.ensures.found c.in_ok-clone.ensures.cases
+pub returns-clause-returned_sorted : goal.returns-clause-returned_sorted
+returns-clause-returned_sorted c = copy_ordered view content _ _ _ _ c.in_ok-resolve.ensures.found c.in_ok-clone.ensures.cases

@@ -3,5 +3,5 @@ use Rattle.jsonptr.specs.TomlValue.{content}
 use Rattle.jsonptr_session.proofs.FoundLemmas.{given_ordered}
 use Rattle.jsonptr_session.proofs.toml_value.ValueSessionDocument.assign_at.Goals as goal
 
-pub returns-clause-given_sorted : goal.returns-clause-given_sorted
-returns-clause-given_sorted c = given_ordered view content _ _ _ _ _ c.assign.ensures.assigned
+pub returns-clause-returned_sorted : goal.returns-clause-returned_sorted
+returns-clause-returned_sorted c = given_ordered view content _ _ _ _ _ c.assign.ensures.assigned

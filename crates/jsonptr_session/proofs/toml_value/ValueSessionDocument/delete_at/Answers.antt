@@ -6,5 +6,5 @@ use Rattle.jsonptr_session.proofs.toml_value.ValueSessionDocument.delete_at.Goal
 pub returns-clause-deleted : goal.returns-clause-deleted
 returns-clause-deleted c = found_deleted view content _ _ _ _ _ c.delete.ensures.deleted c.delete.ensures.found
 
-pub returns-clause-given_sorted : goal.returns-clause-given_sorted
-returns-clause-given_sorted c = deleted_ordered view content _ _ _ _ c.delete.ensures.found
+pub returns-clause-returned_sorted : goal.returns-clause-returned_sorted
+returns-clause-returned_sorted c = deleted_ordered view content _ _ _ _ c.delete.ensures.found

@@ -6,5 +6,5 @@ use Rattle.jsonptr_session.proofs.toml_value.ValueSessionDocument.swap_at.Goals 
 pub returns-clause-found : goal.returns-clause-found
 returns-clause-found c = found_map view content _ _ _ _ c.swap.ensures.found
 
-pub returns-clause-given_sorted : goal.returns-clause-given_sorted
-returns-clause-given_sorted c = found_ordered view content _ _ _ _ c.swap.ensures.found
+pub returns-clause-returned_sorted : goal.returns-clause-returned_sorted
+returns-clause-returned_sorted c = found_ordered view content _ _ _ _ c.swap.ensures.found

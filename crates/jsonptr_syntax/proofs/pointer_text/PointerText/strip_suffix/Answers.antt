@@ -5,13 +5,13 @@ use Rattle.jsonptr_syntax.proofs.CutBetween.{text_of_end, split_before_pointer, 
 use Rattle.jsonptr_syntax.proofs.pointer_text.PointerText.strip_suffix.Goals as goal
 use Rattle.jsonptr_syntax.proofs.pointer_text.PointerText.strip_suffix.Goals.{In_ok-front}
 
-cut : (c : In_ok-front) → IsSplit c.args.self.now.inner.now c.in_ok-front.front.now c.args.back.inner.now
+cut : (c : In_ok-front) → IsSplit c.args.self.now.inner.now c.in_ok-front.front.now c.args.suffix.inner.now
 cut c =
     let strips = c.in_ok-front.ensures.cases in
-    split_before_pointer _ _ _ c.args.back.valid (strips.1.1 ∙ ap (λ (x : Text). x ++ c.args.back.inner.now) (sym strips.2))
+    split_before_pointer _ _ _ c.args.suffix.valid (strips.1.1 ∙ ap (λ (x : Text). x ++ c.args.suffix.inner.now) (sym strips.2))
 
 pub returns-in_err-front : goal.returns-in_err-front
-returns-in_err-front c = rw c.from_residual.ensures (λ b. c.in_err-front.ensures.cases _ (text_of_end _ _ c.args.self.now.valid c.args.back.valid b))
+returns-in_err-front c = rw c.from_residual.ensures (λ b. c.in_err-front.ensures.cases _ (text_of_end _ _ c.args.self.now.valid c.args.suffix.valid b))
 
 pub returns : goal.returns
 returns c = split_tokens _ _ _ c.args.self.now.valid (cut (goal.at.returns c).In_ok-front)

@@ -14,7 +14,7 @@ returns-clause-opened c = λ start ascends opened.
     (made.sorted ascends opened.order)
     (record {
       named = (made.assigned.assigned.path, made.assigned.landing);
-      order = if_put (λ v. HasSortedKeys (view v)) c.in_ok-last.last made.given_sorted opened.order;
+      order = if_put (λ v. HasSortedKeys (view v)) c.in_ok-last.last made.returned_sorted opened.order;
       old_order = opened.order;
       gives = λ d undone order. made.restores d undone opened.order order;
     })

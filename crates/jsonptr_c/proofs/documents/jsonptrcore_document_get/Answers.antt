@@ -1,0 +1,12 @@
+use Rattle.std.proofs.Common.{length, subst}
+use Rattle.serde_json.specs.View.{view}
+use Rattle.jsonptr_c_calls.specs.Failures.{FailsOnHandle, IsNotPrinted}
+use Rattle.jsonptr_in_text.specs.declared.format.Format.{Format}
+use Rattle.jsonptr_c.proofs.documents.jsonptrcore_document_get.Goals as goal
+
+pub returns-in-Err-clause-refused : goal.returns-in-Err-clause-refused
+returns-in-Err-clause-refused c = λ failed. (
+  c.in-Err.call_error,
+  c.fail_with_length.ensures.reported,
+  subst (λ (l : Format). FailsOnHandle c.args.document.now (λ v. IsNotPrinted l (view v) c.args.pointer.now (length c.args.out.now) c.in-Err.call_error) c.in-Err.call_error) c.format_for.ensures c.in-Err.ensures.refused,
+)
