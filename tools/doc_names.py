@@ -5,9 +5,8 @@
 - Each table has a head, and rows of as many cells.
 - Each crate, file, law, module and clause that a document names exists.
 - README, `docs/ARCHITECTURE.md` and `crates/jsonptr/CALLING.md` list each crate, and each module of `jsonptr_uses`.
-- Counts of tests, mutants, cases and stored results are those of the tree, and the version is one everywhere.
+- The version is one everywhere.
 - Each word of a public contract is in `docs/SPECIFICATION.md`.
-- The documents have at most 42,000 words, without API and SPECIFICATION.
 """
 import functools
 import glob
@@ -16,8 +15,6 @@ import re
 import sys
 
 import api
-import call_cases
-import doc_examples
 import repository
 import specification
 
@@ -29,8 +26,6 @@ CLAUSE = re.compile(r"\bensures\*? (\w+) \{")
 FUNCTION = re.compile(r"^ *(?:pub(?:\(\w+\))? )?(?:const )?(?:unsafe )?(?:extern \"C\" )?fn (\w+)", re.MULTILINE)
 DEFINITION = re.compile(r"^(?:abbrev pub|pub record|pub data|pub type|postulate pub) (\w+)", re.MULTILINE)
 CITED = re.compile(r"`((?:\w+::)*\w+)`: (`\w+`(?:, `\w+`)*)")
-NUMBER = r"([\d,]+)"
-MOST_WORDS = 42_000
 errors = []
 
 
@@ -155,10 +150,20 @@ def check_files(name, text):
             expect(exists(name, code), name, f"there is no file {code}")
 
 
+@functools.cache
+def laws():
+    """Returns the source files that have each law, by its name."""
+    found = {}
+    for path, source in sources().items():
+        for law in re.findall(r"\bfn (\w+_law)\b", source):
+            found.setdefault(law, []).append(path)
+    return found
+
+
 def check_laws(name, text):
     """Checks that each law that a document names exists, in the module that it says."""
     for module, law in re.findall(r"\b(?:(\w+)::)?(\w+_law)\b", FENCE.sub("", text)):
-        files = [path for path, source in sources().items() if re.search(rf"\bfn {law}\b", source)]
+        files = laws().get(law, [])
         expect(files, name, f"there is no law {law}")
         if files and module and module not in repository.listed():
             places = {os.path.basename(path)[:-3] for path in files} | {os.path.basename(os.path.dirname(path)) for path in files}
@@ -205,48 +210,6 @@ def check_lists(known):
     where = "CONTRIBUTING.md"
     for group in repository.tests():
         expect(f"`{group}`" in read(where), where, f"the group of tests {group} is not listed")
-
-
-def tests():
-    """Returns how many tests `./test` runs: those of the folder `tests`, and the examples."""
-    paths = glob.glob(f"{TOP}/tests/**/*.rt.txt", recursive=True)
-    return sum(repository.read(path).count("#[test]") for path in paths) + examples()
-
-
-@functools.cache
-def examples():
-    """Returns how many examples doc comments have, without those that are items."""
-    found = [example for path in doc_examples.documented() for example in doc_examples.examples(path)]
-    return sum(not doc_examples.is_item(example) for example in found)
-
-
-def check_counts():
-    """Checks the counts that documents contain."""
-    in_gate, others = (len(glob.glob(f"{TOP}/crates/*/{folder}/*.edit")) for folder in ("must-fail", "mutants"))
-    gated = {os.path.dirname(path) for path in glob.glob(f"{TOP}/crates/*/must-fail/*.edit")}
-    # The twins of the mutant X are X, or X.1, X.2.
-    twins = glob.glob(f"{TOP}/crates/*/mutants/twins/*.edit")
-    twinned = {(os.path.dirname(path), os.path.basename(path).split(".")[0]) for path in twins}
-    stored = read("tools/compare/sample/requests.txt").count("\n")
-    counted = (
-        ("README.md", rf"`{NUMBER} passed, 0 failed`", tests()),
-        ("README.md", rf"{NUMBER} stored results", stored),
-        ("README.md", rf"rejected: {NUMBER} mutants", in_gate + others),
-        ("README.md", rf"{NUMBER} beside a proved twin", len(twinned)),
-        ("CONTRIBUTING.md", rf"There are {NUMBER} mutants", in_gate + others),
-        ("CONTRIBUTING.md", rf"mutants, {NUMBER} with a twin", len(twinned)),
-        ("CONTRIBUTING.md", rf"`must-fail/` \| {NUMBER} mutants", in_gate),
-        ("CONTRIBUTING.md", rf"So only {NUMBER} crates have the folder", len(gated)),
-        ("docs/PROVED.md", rf"{NUMBER} cases: every public call", len(call_cases.CASES)),
-        ("docs/PROVED.md", rf"compares {NUMBER} stored results", stored),
-        ("docs/PROVED.md", rf"each of the {NUMBER} and runs it", examples()),
-        ("docs/COMPARING.md", rf"has {NUMBER} requests", stored),
-    )
-    for name, pattern, count in counted:
-        found = re.search(pattern, read(name))
-        expect(found, name, f"the count {pattern} is missing")
-        if found:
-            expect(int(found[1].replace(",", "")) == count, name, f"'{found[0]}': there are {count:,}")
 
 
 def check_version():
@@ -323,12 +286,6 @@ def defining(word, path):
     return []
 
 
-def check_words():
-    """Checks the number of words of the documents, without those of the page that a tool writes."""
-    words = sum(len(read(name).split()) for name in documents() if name != "docs/SPECIFICATION.md")
-    expect(words <= MOST_WORDS, "the documents", f"{words:,} words are more than {MOST_WORDS:,}")
-
-
 def main():
     known = list(repository.listed())
     for name in documents():
@@ -337,13 +294,11 @@ def main():
             check(name, text)
         check_crates(name, text, known)
     check_lists(known)
-    check_counts()
     check_version()
     check_specification()
-    check_words()
     if errors:
         sys.exit("\n".join(f"doc_names: {error}" for error in dict.fromkeys(errors)))
-    print(f"doc_names: {len(documents())} documents, {len(known)} crates, {len(definitions())} definitions, {tests()} tests")
+    print(f"doc_names: {len(documents())} documents, {len(known)} crates, {len(definitions())} definitions")
 
 
 if __name__ == "__main__":
