@@ -5,7 +5,7 @@
     tools/api.py --write    writes the page anew
 
 Each library of crates.txt has a table for its root and for each public module: the item, the first sentence of its doc
-comment, and a link to its line. An item has its row under its shortest path. What a crate names again of another crate
+comment, and a link to its file. An item has its row under its shortest path. What a crate names again of another crate
 has a link to that crate's table.
 """
 import functools
@@ -26,8 +26,8 @@ OWNERS = ("struct", "enum", "trait")
 
 HEAD = """# API
 
-Every public item of the libraries, with the first sentence of its documentation. The link leads to the whole of it, which
-has errors, costs and examples, and to the contract below it. `tools/api.py --write` makes this page.
+Every public item of the libraries, with the first sentence of its documentation. The link leads to its file, where the
+whole documentation has errors, costs and examples, with the contract below it. `tools/api.py --write` makes this page.
 
 A user of the port lists `jsonptr` alone: its table names what it takes from the crates below it.
 """
@@ -150,9 +150,9 @@ def row_again(name, item):
 
 
 def row_line(row):
-    """Returns the line of an item: its name, its summary, and the link to its line."""
+    """Returns the line of an item: its name, its summary, and the link to its file."""
     short = row.path.partition("/src/")[2]
-    return f"| `{row.name}` | {row.summary} | [{short}](../{os.path.relpath(row.path, repository.TOP)}#L{row.line}) |"
+    return f"| `{row.name}` | {row.summary} | [{short}](../{os.path.relpath(row.path, repository.TOP)}) |"
 
 
 def section(crate):

@@ -4,7 +4,7 @@
     tools/specification.py            checks
     tools/specification.py --write    writes the tables anew
 
-Each file that public contracts cite has a table: a definition as its comment writes it, with a link to its line, and what
+Each file that public contracts cite has a table: a definition as its comment writes it, with a link to its file, and what
 the comment says of it. The text above the tables is written by hand.
 """
 import functools
@@ -23,11 +23,10 @@ WITHOUT = ("Lib", "Types")
 
 
 class Word(NamedTuple):
-    """A definition, or several with one comment: the names, the comment, and the line of the first."""
+    """A definition, or several with one comment: the names and the comment."""
 
     names: tuple
     comment: str
-    line: int
 
 
 def files(crate):
@@ -42,13 +41,13 @@ def name_of(path):
 
 
 def blocks(path):
-    """Yields each comment of a file that stands above a line, as one text, with that line and its number."""
+    """Yields each comment of a file that stands above a line, as one text, with that line."""
     comment = []
-    for number, line in enumerate(repository.read(path).splitlines(), 1):
+    for line in repository.read(path).splitlines():
         if line.strip().startswith("--"):
             comment.append(line.strip()[2:].strip())
         else:
-            yield " ".join(filter(None, comment)), line, number
+            yield " ".join(filter(None, comment)), line
             comment = []
 
 
@@ -61,11 +60,11 @@ def head(path):
 def words(path):
     """Returns the public definitions of a file. One without a comment has the row of the definition above it."""
     found = []
-    for comment, line, number in blocks(path):
+    for comment, line in blocks(path):
         defined = PUBLIC.match(line)
         is_field = line.startswith("  pub ") and not comment
         if defined and comment:
-            found.append(Word((defined[1],), comment, number))
+            found.append(Word((defined[1],), comment))
         elif defined and found and not is_field:
             found[-1] = found[-1]._replace(names=(*found[-1].names, defined[1]))
     return found
@@ -83,7 +82,7 @@ def cells(word):
 def row(path, word):
     """Returns the line of a definition."""
     form, meaning = (text.replace("|", "\\|") for text in cells(word))
-    return f"| [{form}](../{os.path.relpath(path, repository.TOP)}#L{word.line}) | {meaning} |"
+    return f"| [{form}](../{os.path.relpath(path, repository.TOP)}) | {meaning} |"
 
 
 def section(crate):
