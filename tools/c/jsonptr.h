@@ -80,6 +80,14 @@
  *             and those that end in _in_text, have no document, and need no lock.
  *             No call may be made in a signal handler.
  * Never       The library never prints, exits, aborts or waits.
+ * Tested      What a call returns is proved, except for what docs/PROVED.md of
+ *             the project lists as tested: among it `*length` where the result
+ *             fills the buffer; what an error leaves in `*node`, `*found` and
+ *             `*count`; `number` of a node; which numbers that are read as
+ *             doubles lose digits, so that 1.10 does not; which patch
+ *             jsonptr_document_diff makes, and when a patch that takes another
+ *             back nests too deep; which bytes that read as a value are located,
+ *             and that the value at an offset is the innermost one.
  *
  * WHAT THE CALLER MUST UPHOLD
  *
