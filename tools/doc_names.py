@@ -36,7 +36,7 @@ def read(name):
 
 def documents():
     """Returns the documents that people write."""
-    found = ["README.md", "CONTRIBUTING.md", "CHANGELOG.md", "tools/README.md"]
+    found = ["README.md", "CONTRIBUTING.md", "CHANGELOG.md", "tests/README.md", "tools/README.md"]
     for pattern in ("docs/*.md", "crates/*/*.md"):
         found += sorted(os.path.relpath(path, TOP) for path in glob.glob(f"{TOP}/{pattern}"))
     return [name for name in found if name != "docs/API.md"]
