@@ -213,13 +213,22 @@ def check_lists(known):
 
 
 def check_version():
-    """Checks that every place has the version and the date of `crates/jsonptr/VERSION`."""
-    version, date = read("crates/jsonptr/VERSION").split()
+    """Checks that every place has the version and the last release of `crates/jsonptr/VERSION`."""
+    version, release, date = read("crates/jsonptr/VERSION").split()
+    number = re.fullmatch(r"(\d+)\.(\d+)\.(\d+)(?:-dev)?", version)
+    if not number:
+        return expect(False, "crates/jsonptr/VERSION", f"{version} is no version")
+    major, minor, patch = number.groups()
+    last = f"Version {version}, of {date}" if version == release else f"Version {version}, not released: the last release is {release}, of {date}"
     places = (
-        ("README.md", f"Version {version}, of {date}"),
-        ("CHANGELOG.md", f"## [{version}] - {date}"),
+        ("README.md", last),
+        ("CHANGELOG.md", f"## [{release}] - {date}"),
+        ("CHANGELOG.md", f"## [{release}]" if version == release else "## [Unreleased]"),
         ("crates/jptr/src/arguments.rt", f'VERSION: &str = "{version}";'),
-        ("tools/c/jsonptr.h", f'such as "{version}"'),
+        ("crates/jptr/install/jptr.1", f".Os jptr {version}"),
+        ("tools/c/jsonptr.h", f"#define JSONPTR_VERSION_MAJOR {major}\n#define JSONPTR_VERSION_MINOR {minor}\n#define JSONPTR_VERSION_PATCH {patch}\n"),
+        ("tools/c/jsonptr.h", f'#define JSONPTR_VERSION "{version}"\n'),
+        ("tools/c/jsonptr.py", f'__version__ = "{version}"\n'),
     )
     for name, text in places:
         expect(os.path.exists(f"{TOP}/{name}") and text in read(name), name, f"'{text}' is missing")

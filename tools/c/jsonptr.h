@@ -118,10 +118,15 @@
 #include <stddef.h>
 #include <stdint.h>
 
-/* The version of this header. jsonptr_version says that of the library. */
+/* The version of this header. jsonptr_version says that of the library. A version
+ * that ends in "-dev" is not released, and has the numbers of the one that will be.
+ * JSONPTR_VERSION_NUMBER is for #if, as in #if JSONPTR_VERSION_NUMBER >= 3000. */
 #define JSONPTR_VERSION_MAJOR 0
-#define JSONPTR_VERSION_MINOR 2
+#define JSONPTR_VERSION_MINOR 3
 #define JSONPTR_VERSION_PATCH 0
+#define JSONPTR_VERSION "0.3.0-dev"
+#define JSONPTR_VERSION_NUMBER \
+    (JSONPTR_VERSION_MAJOR * 1000000 + JSONPTR_VERSION_MINOR * 1000 + JSONPTR_VERSION_PATCH)
 
 /* What the shared library exports. */
 #if defined(__GNUC__)
@@ -694,7 +699,8 @@ jsonptr_status jsonptr_pointer_at_in_text(const char *text, size_t text_length,
                                           char *out, size_t capacity, size_t *length,
                                           jsonptr_error *error);
 
-/* The version of the library, such as "0.2.0", with a closing zero. */
+/* The version of the library, JSONPTR_VERSION of its own header, with a closing
+ * zero. */
 JSONPTR_API const char *jsonptr_version(void);
 
 #ifdef __cplusplus

@@ -48,7 +48,6 @@ environment variable JSONPTR_LIBRARY names another file. Without a library, the 
 may share a `Document`, which has a lock; the lock of Python is free while the library works.
 """
 import ctypes
-import ctypes.util
 import json
 import operator
 import os
@@ -58,6 +57,8 @@ from typing import Any, Dict, Iterator, List, NamedTuple, NoReturn, Optional, Su
 
 __all__ = ["Document", "JsonPointerError", "JsonPatchError", "NotExact", "NotFound", "Patch", "Span", "TooDeep", "escape",
            "locate", "lost_number", "make_patch", "pointer_at", "resolve", "resolve_in_text", "tokens", "version"]
+
+__version__ = "0.3.0-dev"
 
 Text = Union[str, bytes]
 
@@ -70,9 +71,9 @@ def _library() -> ctypes.CDLL:
     """Loads the library."""
     here = os.path.dirname(os.path.abspath(__file__))
     named = os.environ.get("JSONPTR_LIBRARY")
-    beside = [os.path.join(here, *up, "libjsonptr.so.0") for up in ((), ("..", "lib"), ("..", "..", "lib"))]
-    found = [name for name in beside if os.path.exists(name)]
-    name = named or (found[0] if found else ctypes.util.find_library("jsonptr") or "libjsonptr.so.0")
+    soname = "libjsonptr.so." + ".".join(__version__.split(".")[:2])
+    beside = [os.path.join(here, *up, soname) for up in ((), ("..", "lib"), ("..", "..", "lib"))]
+    name = named or next((it for it in beside if os.path.exists(it)), soname)
     try:
         library = ctypes.CDLL(name)
         library.jsonptr_version

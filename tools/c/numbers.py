@@ -1,4 +1,4 @@
-"""Compares the numbers of jsonptr.h with those of the proved calls, of the Python module, and with the version."""
+"""Compares the numbers of jsonptr.h with those of the proved calls and of the Python module."""
 import os
 import re
 import sys
@@ -38,9 +38,6 @@ def main():
     if {name: number for name, number in header.items() if name not in outside} != of_calls():
         errors.append(f"jsonptr.h and the calls differ: {sorted(set(header.items()) ^ set(of_calls().items()))}")
     errors += [f"{name} of the Python module is {number}" for name, number in of_module().items() if header.get(name) != number]
-    version = ".".join(str(header[f"VERSION_{part}"]) for part in ("MAJOR", "MINOR", "PATCH"))
-    if version != text_of("crates/jsonptr/VERSION").split()[0]:
-        errors.append(f"jsonptr.h says version {version}")
     if errors:
         sys.exit("\n".join(errors))
     print(f"numbers: {len(header)} of jsonptr.h")

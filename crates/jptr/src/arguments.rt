@@ -4,7 +4,7 @@ use clap::{Arg, ArgAction, Command};
 use std::alloc::{AllocError, Global};
 
 /// The version of the project, as in `crates/jsonptr/VERSION`.
-const VERSION: &str = "0.2.0";
+const VERSION: &str = "0.3.0-dev";
 
 /// The names of the commands, in the order of the help.
 const COMMANDS: [&str; 21] = [

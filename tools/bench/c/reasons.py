@@ -94,7 +94,7 @@ def timed(call, repeats=15):
 
 def parts_in_python(built, text):
     """Prints the parts of reading and resolving in Python."""
-    os.environ["JSONPTR_LIBRARY"] = f"{built}/lib/libjsonptr.so.0"
+    os.environ["JSONPTR_LIBRARY"] = f"{built}/lib/libjsonptr.so"
     sys.path.insert(0, f"{built}/python")
     import jsonptr
 
@@ -125,7 +125,7 @@ def parts_of_a_call(built, text):
 
     read, pointer = jsonptr.Document(text), b"/size/a~1b"
     buffer, size = read._buffer, ctypes.c_size_t(len(pointer))
-    declared = ctypes.CDLL(f"{built}/lib/libjsonptr.so.0").jsonptr_document_get
+    declared = ctypes.CDLL(f"{built}/lib/libjsonptr.so").jsonptr_document_get
     declared.argtypes = [ctypes.POINTER(jsonptr._Handle), ctypes.c_char_p, ctypes.c_size_t, ctypes.c_uint32, ctypes.c_void_p,
                          ctypes.c_size_t, ctypes.POINTER(ctypes.c_size_t), ctypes.POINTER(jsonptr._Error)]
     declared.restype, address = ctypes.c_uint32, ctypes.addressof(buffer.bytes)

@@ -73,7 +73,7 @@ def least(call, repeats, rounds):
 
 def time_python(built, text, rounds):
     """Times the Python wrapper, and prints its table."""
-    os.environ["JSONPTR_LIBRARY"] = f"{built}/lib/libjsonptr.so.0"
+    os.environ["JSONPTR_LIBRARY"] = f"{built}/lib/libjsonptr.so"
     sys.path.insert(0, f"{built}/python")
     import jsonpatch
     import jsonpointer

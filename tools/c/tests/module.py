@@ -213,7 +213,7 @@ def check_library():
 def check_version():
     """Checks that the version is that of `crates/jsonptr/VERSION`."""
     with open(f"{TOP}/crates/jsonptr/VERSION", encoding="utf-8") as file:
-        assert jsonptr.version() == file.read().split()[0], jsonptr.version()
+        assert jsonptr.version() == jsonptr.__version__ == file.read().split()[0], jsonptr.version()
 
 
 def main():
