@@ -44,8 +44,8 @@ Each error that a call raises is a `JsonPointerError`, or a `TypeError` or `Memo
 can be copied and pickled.
 
 The library is searched for beside this file, in `../lib` and `../../lib`, and where the system has its libraries. The
-environment variable JSONPTR_LIBRARY names another file. Without a library, the import fails with `ImportError`. Threads
-may share a `Document`, which has a lock; the lock of Python is free while the library works.
+environment variable JSONPTR_LIBRARY names another file. The import fails with `ImportError` if there is no library, or one
+of another version. Threads may share a `Document`, which has a lock; the lock of Python is free while the library works.
 """
 import ctypes
 import json
@@ -76,10 +76,15 @@ def _library() -> ctypes.CDLL:
     name = named or next((it for it in beside if os.path.exists(it)), soname)
     try:
         library = ctypes.CDLL(name)
-        library.jsonptr_version
+        said = library.jsonptr_version
     except (OSError, AttributeError) as error:
         where = "JSONPTR_LIBRARY names no library of jsonptr" if named else "there is no library of jsonptr"
         raise ImportError(f"{where}: {error}", name="jsonptr", path=name) from None
+    # What the structs and the functions are depends on the version, so it is compared before any other call.
+    said.restype = ctypes.c_char_p
+    if said().decode(errors="replace") != __version__:
+        raise ImportError(f"the library {name} is version {said().decode(errors='replace')}, and the module jsonptr is "
+                          f"version {__version__}", name="jsonptr", path=name)
     return library
 
 
@@ -100,7 +105,11 @@ def _function(name: str, result: Any = ctypes.c_uint32) -> Any:
     It has no `argtypes`: to convert arguments to declared types takes longer than most calls. So each argument here is
     `bytes`, or an instance of `ctypes` that has the type of the parameter, and never an `int`.
     """
-    function = getattr(_lib, "jsonptr_" + name)
+    try:
+        function = getattr(_lib, "jsonptr_" + name)
+    except AttributeError:
+        raise ImportError(f"the library {_lib._name} lacks jsonptr_{name}. It says that it is version {__version__}, as the "
+                          "module jsonptr does, but it is another one", name="jsonptr", path=_lib._name) from None
     function.restype = result
     return function
 

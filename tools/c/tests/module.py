@@ -8,6 +8,7 @@ import pickle
 import re
 import subprocess
 import sys
+import tempfile
 import time
 
 import jsonptr
@@ -202,12 +203,45 @@ def check_page():
     assert values == 4, values
 
 
+def functions():
+    """Returns the names of the functions of the header."""
+    with open(f"{TOP}/tools/c/jsonptr.h", encoding="utf-8") as file:
+        return sorted(set(re.findall(r"\b(jsonptr_\w+)\(", file.read())) - {"jsonptr_version"})
+
+
+def stub(folder, version, names):
+    """Compiles a library that has functions of these names, and says that it is of a version. Returns its path."""
+    path = f"{folder}/{version}-{len(names)}"
+    with open(f"{path}.c", "w", encoding="utf-8") as file:
+        file.writelines(f"unsigned {name}(void) {{ return 1; }}\n" for name in names)
+        file.write(f'const char *jsonptr_version(void) {{ return "{version}"; }}\n')
+    compiler = os.environ.get("CC", "cc").split()
+    subprocess.run([*compiler, "-shared", "-fPIC", f"{path}.c", "-o", f"{path}.so"], check=True)
+    return f"{path}.so"
+
+
+def imported(name):
+    """Returns what an import of the module over a library of this path prints: its error, or that there is none."""
+    code = "try:\n    import jsonptr\n    print('imported')\nexcept ImportError as error:\n    print(error.path, error)"
+    run = subprocess.run([sys.executable, "-c", code], env={**os.environ, "JSONPTR_LIBRARY": name}, stdout=subprocess.PIPE)
+    return run.stdout.decode()
+
+
 def check_library():
-    """Checks the errors of an import that finds no library."""
-    code = "try:\n    import jsonptr\nexcept ImportError as error:\n    print(error.path, error)"
+    """Checks the errors of an import that finds no library, one of another version, or one that lacks a function."""
     for name in ("/no/such/file", __file__):
-        run = subprocess.run([sys.executable, "-c", code], env={**os.environ, "JSONPTR_LIBRARY": name}, stdout=subprocess.PIPE)
-        assert run.stdout.decode().startswith(f"{name} JSONPTR_LIBRARY names no library"), run.stdout
+        assert imported(name).startswith(f"{name} JSONPTR_LIBRARY names no library"), imported(name)
+    every, version = functions(), jsonptr.__version__
+    with tempfile.TemporaryDirectory() as folder:
+        for other in ("0.2.0", "0.3.1", "1.0.0"):
+            name = stub(folder, other, every)
+            assert imported(name) == f"{name} the library {name} is version {other}, and the module jsonptr is version {version}\n"
+        assert imported(stub(folder, version, every)) == "imported\n"
+        for lacking in ("jsonptr_document_get", "jsonptr_pointer_at_in_text"):
+            name = stub(f"{folder}", version, [it for it in every if it != lacking])
+            assert imported(name).startswith(f"{name} the library {name} lacks {lacking}. It says that it is version {version}")
+        name = stub(folder, "0.2.0", ["jsonptr_document_parse"])
+        assert "is version 0.2.0, and the module jsonptr is version" in imported(name)
 
 
 def check_version():
