@@ -3,8 +3,8 @@
 
 Each COMMAND is one word of the shell, as './test' or 'rt ci'. The first that fails ends the run with its status. At the end
 each step has a line with its processor seconds and minutes, and the ten crates that the prover worked longest on have a
-line each: a proof is `NAME`, its tests are `NAME (tests)`. These are read from Linux' /proc once a second, so other provers
-of the machine count too. The time of a Python loop tells how fast the machine is.
+line each. These are read from Linux' /proc once a second, so other provers of the machine count too. The time of a Python
+loop tells how fast the machine is.
 """
 import collections
 import os
@@ -50,11 +50,10 @@ def loop_seconds():
 
 
 def crate_of(words):
-    """Returns what a prover's command line works on, or `None` if it is another process."""
+    """Returns the crate that a prover's command line works on, or `None` if it is another process."""
     if not words or os.path.basename(words[0]) != "rattle" or "--crate-name" not in words or "--start" in words:
         return None
-    name = words[words.index("--crate-name") + 1]
-    return f"{name} (tests)" if "--test" in words else name
+    return words[words.index("--crate-name") + 1]
 
 
 def processor_seconds(process):
