@@ -1677,7 +1677,9 @@ def large_undos_and_patches():
     pointer = "/a" * 12 + "/b"
     yield undoing("json", deep, "assign_with_undo", pointer, "7", answer=f"remove at {pointer}", after=written)
     yield undoing("json", deep, "undo", pointer, "7", answer="done", after=deep)
-    yield undoing("json", nested(12, "1"), "undo", "/a" * 12, "7", answer="done", after=nested(12, "1"))
+    one, seven, pointer = nested(12, "1"), nested(12, "7"), "/a" * 12
+    yield undoing("json", one, "assign_with_undo", pointer, "7", answer=f"put 1 at {pointer}", after=seven)
+    yield undoing("json", one, "undo", pointer, "7", answer="done", after=one)
     deeper = "/a" * 1100
     yield undoing("json", "{}", "assign_with_undo", deeper, "7", answer="remove at /a", after=nested(1100, "7"))
     copied = '{"a":' + nested(11, "1") + ',"b":1}'

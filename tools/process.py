@@ -11,7 +11,6 @@ from call_cases import RESOLVE_BAD_INDEX, RESOLVE_NOT_FOUND, RESOLVE_OUT_OF_BOUN
 from call_cases import SECTION_5, VECTORS
 from harness import CheckFailed, build_shim, program, run_with_shim
 
-PROGRAM = program("jsonptr_run")
 SECONDS = 60
 USAGE = (
     "usage: jsonptr_run resolve POINTER, delete POINTER, tokens POINTER, assign POINTER VALUE, split POINTER POSITION, "
@@ -325,9 +324,14 @@ def large():
     yield fails_with(BAD_INPUT, "resolve", "", input="[" * MIB_64, status=3)
 
 
+def jsonptr_run():
+    """Returns the path of the built program. The cases alone need none."""
+    return program("jsonptr_run")
+
+
 def run_program(words, **streams):
     """Runs the program."""
-    return subprocess.run([PROGRAM, *words], timeout=SECONDS, **streams)
+    return subprocess.run([jsonptr_run(), *words], timeout=SECONDS, **streams)
 
 
 def bytes_of(text):
@@ -394,7 +398,7 @@ def to_nobody(words, text):
 
 def by_shell(words, streams, text):
     """Runs the program with its streams set by the shell."""
-    script = ["sh", "-c", f'"$@" {streams}', "", PROGRAM, *words]
+    script = ["sh", "-c", f'"$@" {streams}', "", jsonptr_run(), *words]
     return subprocess.run(script, input=text.encode(), capture_output=True, timeout=SECONDS)
 
 
@@ -407,7 +411,7 @@ def check_outcome(words, status, message, given):
 
 def check_memory(case, shim):
     """Runs a case once for each memory request, with that one failing, and returns the number of requests."""
-    words = [PROGRAM, *case.words]
+    words = [jsonptr_run(), *case.words]
     # A run that reads a document keeps it to the end of the process.
     options = {"count": "run", "may_keep": case.is_read}
     usual, requests, _ = run_with_shim(words, case.input, shim, 0, **options)
