@@ -5,7 +5,8 @@ use Rattle.std.proofs.lemmas.Bool.{eqb-true, eq-eqb}
 use Rattle.std.specs.Prelude.{IfSome, if◌then◌else◌, nat_lt, ◌==◌, slice_index}
 use Rattle.std.specs.Io.{StopsAt}
 use Rattle.std.specs.Io.BufRead.{take_through, ends_with_byte}
-use Rattle.std.specs.Io.KnownBytes.{Consumes}
+use Rattle.std.specs.Io.KnownBytes.{Consumes, IsAtEnd, Keeps}
+use Rattle.std.proofs.KnownBytes.{Consumes-kept, Consumes-nil, Consumes-trans}
 use Rattle.jsonptr_io.specs.Lines.{IsOneLine, AreLines, IsNextLine}
 use Rattle.jsonptr_io.specs.PrivateLines.{CutsBreak, joined, AreAllLines}
 use Rattle.jsonptr_io.specs.declared.read.Ending.{Ending}
@@ -150,6 +151,25 @@ next_of old new got line Input stops some known read cut = (
         let through : IsOneLine (take_through 10 xs) = subst IsOneLine (cut.0 ∙ h) one in
         sym (whole xs through) ∙ sym h ∙ sym cut.0
 next_of old new got line NoLine stops some known read cut = absurd cut
+
+-- a look at the input before the line keeps it
+kept_first : (a b c : Option Line) (bs : Line) → Keeps a b → Consumes b c bs → Consumes a c bs
+kept_first a b c bs k h = Consumes-trans a b c [] bs (Consumes-kept a a b [] (Consumes-nil a) k) h
+
+if_kept : (a b : Option Line) (P : Line → Type 0) → Keeps a b → IfSome b P → IfSome a P
+if_kept None b P k h = tt
+if_kept (Some x) None P k h = absurd k
+if_kept (Some x) (Some y) P k h = subst P k h
+
+end_kept : (a b : Option Line) → Keeps a b → IsAtEnd b → IsAtEnd a
+end_kept None b k h = tt
+end_kept (Some x) None k h = absurd k
+end_kept (Some x) (Some y) k h = subst (λ (t : Line). t ≡ []) k h
+
+pub next_kept : (a b c : Option Line) (line : Line) (ending : Ending) → Keeps a b → IsNextLine b c line ending → IsNextLine a c line ending
+next_kept a b c line Break k h = (h.0, kept_first a b c (line ++ 10 ∷ []) k h.1)
+next_kept a b c line Input k h = (h.0, h.1, kept_first a b c line k h.2, if_kept a b (λ xs. xs ≡ line) k h.3)
+next_kept a b c line NoLine k h = (end_kept a b k h.0, kept_first a b c [] k h.1)
 
 -- ---- lines in a row
 

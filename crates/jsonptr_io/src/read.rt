@@ -1,8 +1,10 @@
 //! Reading the next line.
-ghost use Rattle.std.specs.Prelude.{IfOk, OnErr};
+ghost use Rattle.std.specs.Prelude.{◌≡◌, ◌≢◌, [], IfErr, IfOk, IsTrue, Ok, OnErr, Some, false};
+ghost use Rattle.std.specs.Io.KnownBytes.{IsAtEnd, Keeps};
 ghost use Rattle.jsonptr_io.specs.Lines.{IsNextLine};
 ghost use Rattle.jsonptr_io.specs.PrivateLines.{CutsBreak};
 ghost use Rattle.jsonptr_io.specs.Streams.{ReadsSome};
+ghost use Rattle.jsonptr_io.specs.declared.input.InputError.{InputError};
 
 use crate::input::InputError;
 use std::alloc::AllocError;
@@ -25,7 +27,7 @@ pub enum Ending {
 /// # Errors
 ///
 /// [`InputError::Read`] if a read fails, and [`InputError::Memory`] if the allocation for the line
-/// fails. Some bytes may have been read.
+/// fails, which an input at its end does not need. Some bytes may have been read.
 ///
 /// # Examples
 ///
@@ -43,14 +45,37 @@ pub fn next_line<R: BufRead>(input: &mut R, line: &mut Vec<u8>) -> Result<Ending
     ensures line { IfOk result
         (IsNextLine (R.remaining input.old) (R.remaining input.new) line.new.items) }
     ensures consumed { OnErr result (ReadsSome (R.remaining input.old) (R.remaining input.new)) }
+    // An input at its end needs no allocation.
+    ensures no_memory { IfErr result
+        (λ e. e ≢ InputError.Read → R.remaining input.old ≢ Some []) }
 {
     line.clear();
+    if is_at_end(input)? {
+        return Ok(Ending::NoLine);
+    }
     match input.read_until(b'\n', line) {
         Ok(0) => Ok(Ending::NoLine),
         Ok(_) => Ok(cut_break(line)),
         Err(error) if error.kind() == ErrorKind::OutOfMemory => Err(InputError::Memory(AllocError)),
         Err(_) => Err(InputError::Read),
     }
+}
+
+/// Returns whether the input is at its end. Repeats a read that was interrupted.
+fn is_at_end<R: BufRead>(input: &mut R) -> Result<bool, InputError>
+    ensures kept { Keeps (R.remaining input.old) (R.remaining input.new) }
+    ensures end { IfOk result (λ at_end. IsTrue at_end → IsAtEnd (R.remaining input.old)) }
+    ensures more { result ≡ Ok false → R.remaining input.old ≢ Some [] }
+    ensures read { IfErr result (λ e. e ≡ InputError.Read) }
+{
+    for _turn in 0..u64::MAX {
+        match input.fill_buf() {
+            Ok(bytes) => return Ok(bytes.is_empty()),
+            Err(error) if error.kind() == ErrorKind::Interrupted => {}
+            Err(_) => return Err(InputError::Read),
+        }
+    }
+    Err(InputError::Read)
 }
 
 /// Removes the line break from the end of the line. Returns how the line ended.
