@@ -15,7 +15,7 @@ ghost use Rattle.jptr_tasks.specs.declared.replacement.Replaced.TheVariants.{Dur
 pub enum Event {
     /// The temporary file was created, which only its owner may read.
     Create(bool),
-    /// The new text was written to it.
+    /// The new text was appended to it.
     Write(bool),
     /// It was given the owner, the group and the rights of the file, or fewer rights.
     TakeRights(bool),
@@ -45,7 +45,7 @@ pub trait FileSystem {
     fn create(&mut self) -> Result<(), Self::Error>
         ensures { Tries event.Create (events self.old) result (events self.new) };
 
-    /// Writes the new text to the temporary file.
+    /// Appends the new text to the file that was created. If it fails, it may have appended other bytes.
     fn write(&mut self) -> Result<(), Self::Error>
         ensures { Tries event.Write (events self.old) result (events self.new) };
 
@@ -86,12 +86,12 @@ pub enum Replaced<E: Drop> {
 
 /// Replaces the text of the file.
 ///
-/// Creates a temporary file, writes the new text to it, copies the file's rights to it, and syncs it.
-/// Looks whether the file was changed since it was read. If not, renames the temporary file over it,
-/// and syncs the folder.
+/// Creates a temporary file, writes the new text to it once, copies the file's rights to it, and
+/// syncs it. Looks whether the file was changed since it was read. If not, renames the temporary file
+/// over it, and syncs the folder.
 ///
-/// At each moment a program reads the old text or the new one, and a crash leaves one of them. With
-/// [`Replaced::Durable`] it leaves the new one.
+/// At each moment a program that opens the file reads a text, which is the old one or the new one, and
+/// a crash leaves one of them. With [`Replaced::Durable`] it leaves the new one.
 ///
 /// # Errors
 ///
