@@ -114,6 +114,14 @@ faults_both : (a b : Bool) (x y : Text) → (a ≡ false → x ≢ []) → (b �
 faults_both true b x y p q e = λ z. q e (nil_right x y z)
 faults_both false b x y p q e = λ z. p refl (nil_left x y z)
 
+no_both : (b : Bool) → b ≡ true → b ≡ false → ⊥
+no_both true p q = cc
+no_both false p q = cc
+
+second_fault : (a b : Bool) → a ≡ true → (a && b) ≡ false → b ≡ false
+second_fault true b p q = q
+second_fault false b p q = cc
+
 pub stops_so : (s f : Bool) → (s && not f) ≡ true → (s ≡ true) × (f ≡ false)
 stops_so true true e = cc
 stops_so true false e = (refl, refl)
@@ -209,14 +217,22 @@ module _ (run : LineTask) (n : ℕ) (fine : Bool) (r0 r w0 w e0 e : Known) (p : 
           strict = strict;
         }
 
-    end_as : (bytes : Text) (ls : List Text) (err : Text) (b : Bool) → AreLines bytes ls → (b ≡ true → err ≡ []) → (b ≡ false → err ≢ []) → IsEnd run bytes ls err (ended_as b)
-    end_as bytes ls err true are clean faults = (are, clean refl)
-    end_as bytes ls err false are clean faults = (are, faults refl)
+    end_as : (bytes : Text) (ls : List Text) (err : Text) (b : Bool) → AreLines bytes ls → (b ≡ true → err ≡ []) → (b ≡ false → err ≢ [])
+        → (run.is_strict ≡ true → b ≡ false → IsReport (string_bytes run.name) (length ls) err) → IsEnd run bytes ls err (ended_as b)
+    end_as bytes ls err true are clean faults last = (are, clean refl)
+    end_as bytes ls err false are clean faults last = (are, faults refl, λ strict. last strict refl)
+
+    -- in a strict run, the report of the line after those before is the only one
+    alone : (l r : Text) → run.is_strict ≡ true → IsReport (string_bytes run.name) n r → IsReport (string_bytes run.name) (length (p.lines ++ l ∷ [])) (p.err ++ r)
+    alone l r strict reported =
+        let name = string_bytes run.name in
+        let same : r ≡ p.err ++ r = ap (λ (x : Text). x ++ r) (sym (p.clean (p.strict strict))) in
+        subst (IsReport name (length (p.lines ++ l ∷ []))) same (subst (λ (k : ℕ). IsReport name k r) (push_count p.lines l n p.count) reported)
 
     -- no further line
     pub end_run : IsTurn run n r r1 w w1 e e1 NoLine → IsRun run r0 w0 w1 e0 e1 (ended_as fine)
     end_run t = for_map r0 (λ bytes. AreLines bytes p.lines) _
-        (λ bytes are. (p.lines, p.out, p.err, end_as bytes p.lines p.err fine are p.clean p.faults, p.gives, Appends-kept w0 w w1 p.out p.written t.1, Appends-kept e0 e e1 p.err p.reported t.2))
+        (λ bytes are. (p.lines, p.out, p.err, end_as bytes p.lines p.err fine are p.clean p.faults (λ strict fault. absurd (no_both fine (p.strict strict) fault)), p.gives, Appends-kept w0 w w1 p.out p.written t.1, Appends-kept e0 e e1 p.err p.reported t.2))
         (all_lines r0 r p.lines p.are p.read t.0)
 
     -- the last line, without a line break
@@ -231,7 +247,7 @@ module _ (run : LineTask) (n : ℕ) (fine : Bool) (r0 r w0 w e0 e : Known) (p : 
           p.lines ++ t.0 ∷ [],
           p.out ++ put.out,
           p.err ++ put.err,
-          end_as bytes (p.lines ++ t.0 ∷ []) (p.err ++ put.err) (fine && f) are clean faults,
+          end_as bytes (p.lines ++ t.0 ∷ []) (p.err ++ put.err) (fine && f) are clean faults (λ strict fault. alone t.0 put.err strict (put.report (second_fault fine f (p.strict strict) fault))),
           gives,
           Appends-trans w0 w w1 p.out put.out p.written put.written,
           Appends-trans e0 e e1 p.err put.err p.reported put.reported,
@@ -243,10 +259,7 @@ module _ (run : LineTask) (n : ℕ) (fine : Bool) (r0 r w0 w e0 e : Known) (p : 
     stop_run strict t =
         let put = put_of run n t.0 w w1 e e1 false t.2 in
         let gives = gives_push run p.lines 1 n p.out p.err t.0 put.out put.err (next_number n (length p.lines) p.count) p.gives put.gives in
-        let alone : put.err ≡ p.err ++ put.err = ap (λ (x : Text). x ++ put.err) (sym (p.clean (p.strict strict))) in
-        let name = string_bytes run.name in
-        let reported : IsReport name n put.err = put.report refl in
-        let report : IsReport name (length (p.lines ++ t.0 ∷ [])) (p.err ++ put.err) = subst (IsReport name (length (p.lines ++ t.0 ∷ []))) alone (subst (λ (k : ℕ). IsReport name k put.err) (push_count p.lines t.0 n p.count) reported) in
+        let report = alone t.0 put.err strict (put.report refl) in
         for_map r0 (λ bytes. AreFirstLines bytes (p.lines ++ t.0 ∷ [])) _
         (λ bytes first. (
           p.lines ++ t.0 ∷ [],

@@ -15,10 +15,11 @@ abbrev pub AreFirstLines : List ℕ → List Text → Type 0
 AreFirstLines bytes ls = (more : List Text) × AreLines bytes (ls ++ more)
 
 -- `IsEnd run bytes ls err ended`: the run over the input `bytes` ends so after the lines `ls`, of which `err` is
--- reported. A run that stopped has reported its last line alone
+-- reported. A strict run reports at most its last line: it stops after the first one at fault
 abbrev pub IsEnd : LineTask → List ℕ → List Text → Text → Ended → Type 0
 IsEnd run bytes ls err Fine = AreLines bytes ls × (err ≡ [])
-IsEnd run bytes ls err WithErrors = AreLines bytes ls × (err ≢ [])
+IsEnd run bytes ls err WithErrors =
+    AreLines bytes ls × (err ≢ []) × (run.is_strict ≡ true → IsReport (string_bytes run.name) (length ls) err)
 IsEnd run bytes ls err Stopped =
     AreFirstLines bytes ls × (run.is_strict ≡ true) × IsReport (string_bytes run.name) (length ls) err
 
