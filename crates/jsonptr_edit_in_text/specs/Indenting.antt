@@ -4,6 +4,7 @@ use Rattle.json.specs.Lex.{tokens}
 use Rattle.serde_json.specs.Data.{Data}
 use Rattle.serde_json.specs.Read.{read}
 use Rattle.jsonptr.specs.Text.{Text}
+use Rattle.jsonptr_json_edits.specs.Spacing.{IsBlank}
 use Rattle.jsonptr_value.specs.declared.from_text.ReadError.{ReadError}
 use Rattle.jsonptr_value.specs.declared.from_text.ReadError.TheVariants as unread
 use Rattle.jsonptr_edit_in_text.specs.declared.indent.IndentError.{IndentError}
@@ -17,12 +18,11 @@ pub record IsIndented (text new : Text) : Type 0 where
   pub same : tokens new ≡ tokens text
   pub reads : read new ≡ Some document
 
--- `IsIndentError text e`: `e` is why `text` is not laid out, unless an allocation failed or the indentation is not
--- white space
-abbrev pub IsIndentError : Text → IndentError → Type 0
-IsIndentError text NotJson = read text ≡ None
-IsIndentError text NotWhiteSpace = ⊤
-IsIndentError text (Memory e) = ⊤
+-- `IsIndentError text indent e`: `e` is why `text` is not laid out with the indentation `indent`, unless an allocation failed
+abbrev pub IsIndentError : Text → Text → IndentError → Type 0
+IsIndentError text indent NotJson = read text ≡ None
+IsIndentError text indent NotWhiteSpace = IsBlank indent → ⊥
+IsIndentError text indent (Memory e) = ⊤
 
 -- `indent_of_read e`: the error of indenting a text that is not read because of `e`
 abbrev pub indent_of_read : ReadError → IndentError

@@ -6,6 +6,7 @@ ghost use Rattle.jsonptr_edit_in_text.specs.Indenting.{IsIndented, IsIndentError
 use jsonptr_in_text::{Format, format_text};
 use jsonptr_json_edits::buffers::Buffers;
 use jsonptr_json_edits::child::is_value_of;
+use jsonptr_json_edits::spacing::are_blank;
 use jsonptr_value::ReadError;
 use std::alloc::{AllocError, Global};
 use thiserror::Error;
@@ -60,11 +61,13 @@ pub fn indent_text(
     indent: &str,
 ) -> Result<String, IndentError>
     ensures indented { IfOk result (λ s. IsIndented text.now (string_bytes s)) }
-    ensures refused { IfErr result (IsIndentError text.now) }
+    ensures refused { IfErr result (IsIndentError text.now indent.now) }
 {
     let lines = format_text(alloc, &mut buffers.old, text, Format::Pretty)?;
     match reindented(alloc, buffers, lines.as_str(), indent) {
         Ok(Some(new)) => Ok(new),
+        // White space changes no token, so this arm is for the proof alone.
+        Ok(None) if are_blank(indent.as_bytes()) => Ok(lines),
         Ok(None) => Err(IndentError::NotWhiteSpace),
         Err(error) => Err(IndentError::Memory(error)),
     }

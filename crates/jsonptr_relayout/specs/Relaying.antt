@@ -32,8 +32,9 @@ IsRelayoutError old d NotJson = read old ≡ None
 IsRelayoutError old d TooDeep = max_depth < depth d
 IsRelayoutError old d (Memory e) = e ≡ alloc_error
 
--- `IsRelayoutTextError old new e`: the text `new` is not laid out as the text `old` is, for the reason `e`
+-- `IsRelayoutTextError old new e`: the text `new` is not laid out as the text `old` is, for the reason `e`. Of two bad texts
+-- the old one is at fault
 abbrev pub IsRelayoutTextError : Text → Text → RelayoutTextError → Type 0
 IsRelayoutTextError old new text.OldNotJson = read old ≡ None
-IsRelayoutTextError old new text.NewNotJson = read new ≡ None
+IsRelayoutTextError old new text.NewNotJson = ((d : Data) × (read old ≡ Some d)) × (read new ≡ None)
 IsRelayoutTextError old new (text.Memory e) = e ≡ alloc_error
