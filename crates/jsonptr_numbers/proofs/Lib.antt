@@ -1,6 +1,7 @@
 -- Digits, and the numbers that they write.
 mod DigitLemmas
 mod TenLemmas
+mod EqualLemmas
 mod ValueLemmas
 mod KeptLemmas
 mod FindLemmas

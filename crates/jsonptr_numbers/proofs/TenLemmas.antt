@@ -8,7 +8,7 @@ pub ten_pos : (k : ℕ) → 0 < 10 ^ k
 ten_pos zero = omega (arith, pow-zero 10)
 ten_pos (suc k) = omega (arith, ten_pos k, pow-succ' 10 k)
 
-cancel : (a b c : ℕ) → 0 < c → a * c ≡ b * c → a ≡ b
+pub cancel : (a b c : ℕ) → 0 < c → a * c ≡ b * c → a ≡ b
 cancel a b c some e = sym (mul-div_cancel a some) ∙ ap (λ k. k / c) e ∙ mul-div_cancel b some
 
 -- the smaller power goes away on both sides

@@ -22,6 +22,7 @@ mod digits;
 mod exact;
 mod find;
 mod kept;
+pub mod laws;
 mod lost;
 mod normal;
 mod path;
