@@ -4,7 +4,8 @@
 use crate::locate::{Extent, Place, Span, trimmed_end};
 use crate::spread::{Lines, OneLine, on_line, spread};
 use crate::style::{
-    Flat, indent_of, is_filled, is_own_line, line_before, margin_of, newline_of, row_above, unit_of,
+    Flat, find_outside_strings, indent_of, is_filled, is_own_line, line_before, margin_of,
+    newline_of, row_above, unit_of,
 };
 use crate::value_text::ValueText;
 use std::alloc::{AllocError, Global};
@@ -245,12 +246,12 @@ impl<'t> Container<'t> {
         let row = row_above(self.text, self.span.from)?;
         let at = match self.text.as_bytes().get(self.span.from) {
             Some(b'{') => if row.ends_with('}') {
-                row.find('{')?
+                find_outside_strings(row, b"{")?
             } else {
                 return None
             },
             _ => if row.ends_with(']') {
-                row.find('[')?
+                find_outside_strings(row, b"[")?
             } else {
                 return None
             },

@@ -90,8 +90,7 @@ fn seen_in(text: &str, is_last: bool) -> Flat<'_> {
             brace: None,
             bracket: None,
         },
-        in_string: false,
-        is_escaped: false,
+        strings: Strings::new(),
         end: 0,
     };
     let mut offset: usize = 0;
@@ -102,6 +101,69 @@ fn seen_in(text: &str, is_last: bool) -> Flat<'_> {
     seen.flat
 }
 
+/// Where the strings of a text are, which is read byte by byte.
+#[derive(Clone, Copy, Debug)]
+struct Strings {
+    /// Whether the next byte is inside a string.
+    is_inside: bool,
+    /// Whether the next byte is escaped.
+    is_escaped: bool,
+}
+
+/// What a byte of a text is.
+#[derive(Clone, Copy, Debug, PartialEq, Eq)]
+enum Part {
+    /// A byte outside strings.
+    Outside,
+    /// A quote that begins a string, or a byte of one.
+    String,
+    /// The quote that ends a string.
+    End,
+}
+
+impl Strings {
+    /// Returns where the strings are before a text, which does not begin inside one.
+    fn new() -> Strings {
+        Strings {
+            is_inside: false,
+            is_escaped: false,
+        }
+    }
+
+    /// Reads the next byte, and returns what it is.
+    fn read(&mut self, byte: u8) -> Part {
+        if !self.is_inside {
+            self.is_inside = byte == b'"';
+            return if self.is_inside {
+                Part::String
+            } else {
+                Part::Outside
+            };
+        }
+        if self.is_escaped {
+            self.is_escaped = false;
+        } else if byte == b'\\' {
+            self.is_escaped = true;
+        } else if byte == b'"' {
+            self.is_inside = false;
+            return Part::End;
+        }
+        Part::String
+    }
+}
+
+/// Returns the offset of the first of these bytes that is outside strings. The text does not begin inside
+/// a string.
+pub fn find_outside_strings(text: &str, wanted: &[u8]) -> Option<usize> {
+    let mut strings = Strings::new();
+    for (offset, byte) in text.as_bytes().iter().enumerate() {
+        if strings.read(*byte) == Part::Outside && wanted.contains(byte) {
+            return Some(offset);
+        }
+    }
+    None
+}
+
 /// What was seen of a text.
 #[derive(Drop)]
 struct Seen<'t> {
@@ -109,10 +171,8 @@ struct Seen<'t> {
     /// Whether what is seen last counts.
     is_last: bool,
     flat: Flat<'t>,
-    /// Whether the next byte is inside a string.
-    in_string: bool,
-    /// Whether the next byte is escaped.
-    is_escaped: bool,
+    /// Where its strings are.
+    strings: Strings,
     /// The offset after the last string.
     end: usize,
 }
@@ -120,18 +180,23 @@ struct Seen<'t> {
 impl<'t> Seen<'t> {
     /// Looks at the byte at the offset.
     fn look(&mut self, offset: usize, byte: u8) {
-        if self.in_string {
-            self.look_inside(offset, byte);
-            return;
-        }
         let next = offset.saturating_add(1);
-        match byte {
-            b'"' => self.in_string = true,
-            b',' => self.flat.comma = self.one_of(self.flat.comma, flat_space(self.text, next)),
-            b':' => self.flat.colon = self.one_of(self.flat.colon, self.colon_at(next)),
-            b'{' => self.flat.brace = self.one_of(self.flat.brace, pad_at(self.text, next)),
-            b'[' => self.flat.bracket = self.one_of(self.flat.bracket, pad_at(self.text, next)),
-            _ => {}
+        match (self.strings.read(byte), byte) {
+            (Part::String, _) => {}
+            (Part::End, _) => self.end = next,
+            (Part::Outside, b',') => {
+                self.flat.comma = self.one_of(self.flat.comma, flat_space(self.text, next));
+            }
+            (Part::Outside, b':') => {
+                self.flat.colon = self.one_of(self.flat.colon, self.colon_at(next));
+            }
+            (Part::Outside, b'{') => {
+                self.flat.brace = self.one_of(self.flat.brace, pad_at(self.text, next));
+            }
+            (Part::Outside, b'[') => {
+                self.flat.bracket = self.one_of(self.flat.bracket, pad_at(self.text, next));
+            }
+            (Part::Outside, _) => {}
         }
     }
 
@@ -141,18 +206,6 @@ impl<'t> Seen<'t> {
             now.or(before)
         } else {
             before.or(now)
-        }
-    }
-
-    /// Looks at a byte of a string.
-    fn look_inside(&mut self, offset: usize, byte: u8) {
-        if self.is_escaped {
-            self.is_escaped = false;
-        } else if byte == b'\\' {
-            self.is_escaped = true;
-        } else if byte == b'"' {
-            self.in_string = false;
-            self.end = offset.saturating_add(1);
         }
     }
 
@@ -247,9 +300,9 @@ pub fn indent_of(line: &str) -> &str {
     slice(text, 0, len)
 }
 
-/// Returns whether the line begins with a line feed and has at most a key.
+/// Returns whether the line begins with a line feed and has at most a key, whatever is in the key.
 pub fn is_own_line(line: &str) -> bool {
-    line.starts_with('\n') && !line.contains('{') && !line.contains('[') && !line.contains(',')
+    line.starts_with('\n') && find_outside_strings(line, b"{[,").is_none()
 }
 
 /// Returns the line break of the text before the offset.
