@@ -10,17 +10,17 @@ use jsonptr::{EncodingError, InvalidEncoding, ParseError, Pointer};
 
 /// Returns the length in bytes of a pointer with a constant text (RFC 6901, section 3).
 pub fn len_of_constant() -> usize
-    ensures { result ≡ 4 }
+    ensures { result ≡ 1 }
 {
-    let pointer = Pointer::from_static("/a/b");
+    let pointer = Pointer::from_static("/");
     pointer.len()
 }
 
 /// Returns the length in bytes of a pointer whose text is known to be valid.
 pub fn len_of_known() -> usize
-    ensures { result ≡ 5 }
+    ensures { result ≡ 2 }
 {
-    let pointer = Pointer::new_unchecked("/a~1b");
+    let pointer = Pointer::new_unchecked("/a");
     pointer.len()
 }
 
