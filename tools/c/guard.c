@@ -1,5 +1,7 @@
 /* The functions of jsonptr.h. Each looks for NULL, for a length that no object has, for a flag that is not defined, and
- * for one document that is passed twice, and then calls the proved function. Nothing else is decided here. */
+ * for one document that is passed twice, and then calls the proved function. A call that only reads a document passes a
+ * copy of its handle, so the handle of the caller is never written to. A result that leaves room is ended by a zero.
+ * Nothing else is decided here. */
 #include "jsonptr.h"
 
 /* The proved functions, from crates/jsonptr_c. No pointer may be NULL. */
@@ -78,12 +80,22 @@ static jsonptr_status bad_argument(jsonptr_error *error) {
 /* The argument, or the address of `instead` for one that is not wanted. */
 #define OR(argument, instead) ((argument) != NULL ? (argument) : &(instead))
 
+/* Puts a zero after a result that leaves room, and returns the status of its call. */
+static jsonptr_status ended(jsonptr_status status, char *out, size_t capacity, const size_t *length) {
+    if (status == JSONPTR_OK && *length < capacity) {
+        out[*length] = 0;
+    }
+    return status;
+}
+
 jsonptr_status jsonptr_error_message(const jsonptr_error *error, char *out, size_t capacity, size_t *length) {
     unwanted none;
     if (error == NULL || !is_slice(out, capacity)) {
         return JSONPTR_BAD_ARGUMENT;
     }
-    return jsonptrcore_error_message(error, OR(out, none.buffer), capacity, OR(length, none.length));
+    size_t *size = OR(length, none.length);
+    jsonptr_status status = jsonptrcore_error_message(error, OR(out, none.buffer), capacity, size);
+    return ended(status, out, capacity, size);
 }
 
 jsonptr_status jsonptr_pointer_count(const char *pointer, size_t pointer_length, size_t *count, jsonptr_error *error) {
@@ -100,8 +112,10 @@ jsonptr_status jsonptr_pointer_token(const char *pointer, size_t pointer_length,
     if (!is_slice(pointer, pointer_length) || !is_slice(out, capacity)) {
         return bad_argument(error);
     }
-    return jsonptrcore_pointer_token(start_of(pointer), pointer_length, position, OR(out, none.buffer), capacity,
-                                     OR(length, none.length), OR(error, none.error));
+    size_t *size = OR(length, none.length);
+    jsonptr_status status = jsonptrcore_pointer_token(start_of(pointer), pointer_length, position,
+        OR(out, none.buffer), capacity, size, OR(error, none.error));
+    return ended(status, out, capacity, size);
 }
 
 jsonptr_status jsonptr_pointer_escape(const char *token, size_t token_length, char *out, size_t capacity, size_t *length,
@@ -110,18 +124,21 @@ jsonptr_status jsonptr_pointer_escape(const char *token, size_t token_length, ch
     if (!is_slice(token, token_length) || !is_slice(out, capacity)) {
         return bad_argument(error);
     }
-    return jsonptrcore_pointer_escape(start_of(token), token_length, OR(out, none.buffer), capacity,
-                                      OR(length, none.length), OR(error, none.error));
+    size_t *size = OR(length, none.length);
+    jsonptr_status status = jsonptrcore_pointer_escape(start_of(token), token_length, OR(out, none.buffer), capacity,
+        size, OR(error, none.error));
+    return ended(status, out, capacity, size);
 }
 
 jsonptr_status jsonptr_pointer_push(char *buffer, size_t capacity, size_t *length, const char *token,
                                     size_t token_length, jsonptr_error *error) {
     unwanted none;
-    if (length == NULL || !is_slice(buffer, capacity) || !is_slice(token, token_length)) {
+    if (length == NULL || *length > capacity || !is_slice(buffer, capacity) || !is_slice(token, token_length)) {
         return bad_argument(error);
     }
-    return jsonptrcore_pointer_push(OR(buffer, none.buffer), capacity, length, start_of(token), token_length,
-                                    OR(error, none.error));
+    jsonptr_status status = jsonptrcore_pointer_push(OR(buffer, none.buffer), capacity, length, start_of(token),
+        token_length, OR(error, none.error));
+    return ended(status, buffer, capacity, length);
 }
 
 jsonptr_status jsonptr_pointer_pop(const char *pointer, size_t *length, jsonptr_error *error) {
@@ -157,38 +174,45 @@ void jsonptr_document_free(jsonptr_document *document) {
     }
 }
 
-jsonptr_status jsonptr_document_print(jsonptr_document *document, uint32_t flags, char *out, size_t capacity,
+jsonptr_status jsonptr_document_print(const jsonptr_document *document, uint32_t flags, char *out, size_t capacity,
                                       size_t *length, jsonptr_error *error) {
     return jsonptr_document_get(document, "", 0, flags, out, capacity, length, error);
 }
 
-jsonptr_status jsonptr_document_get(jsonptr_document *document, const char *pointer, size_t pointer_length,
+jsonptr_status jsonptr_document_get(const jsonptr_document *document, const char *pointer, size_t pointer_length,
                                     uint32_t flags, char *out, size_t capacity, size_t *length, jsonptr_error *error) {
     unwanted none;
     if (document == NULL || !is_slice(pointer, pointer_length) || !is_known(flags) || !is_slice(out, capacity)) {
         return bad_argument(error);
     }
-    return jsonptrcore_document_get(document, start_of(pointer), pointer_length, flags & JSONPTR_PRETTY,
-                                      OR(out, none.buffer), capacity, OR(length, none.length), OR(error, none.error));
+    size_t *size = OR(length, none.length);
+    jsonptr_document copy = *document;
+    jsonptr_status status = jsonptrcore_document_get(&copy, start_of(pointer), pointer_length, flags & JSONPTR_PRETTY,
+        OR(out, none.buffer), capacity, size, OR(error, none.error));
+    return ended(status, out, capacity, size);
 }
 
-jsonptr_status jsonptr_document_string(jsonptr_document *document, const char *pointer, size_t pointer_length, char *out,
+jsonptr_status jsonptr_document_string(const jsonptr_document *document, const char *pointer, size_t pointer_length, char *out,
                                        size_t capacity, size_t *length, jsonptr_error *error) {
     unwanted none;
     if (document == NULL || !is_slice(pointer, pointer_length) || !is_slice(out, capacity)) {
         return bad_argument(error);
     }
-    return jsonptrcore_document_string(document, start_of(pointer), pointer_length, OR(out, none.buffer), capacity,
-                                       OR(length, none.length), OR(error, none.error));
+    size_t *size = OR(length, none.length);
+    jsonptr_document copy = *document;
+    jsonptr_status status = jsonptrcore_document_string(&copy, start_of(pointer), pointer_length,
+        OR(out, none.buffer), capacity, size, OR(error, none.error));
+    return ended(status, out, capacity, size);
 }
 
-jsonptr_status jsonptr_document_node(jsonptr_document *document, const char *pointer, size_t pointer_length,
+jsonptr_status jsonptr_document_node(const jsonptr_document *document, const char *pointer, size_t pointer_length,
                                      jsonptr_node *node, jsonptr_error *error) {
     unwanted none;
     if (document == NULL || node == NULL || !is_slice(pointer, pointer_length)) {
         return bad_argument(error);
     }
-    return jsonptrcore_document_node(document, start_of(pointer), pointer_length, node, OR(error, none.error));
+    jsonptr_document copy = *document;
+    return jsonptrcore_document_node(&copy, start_of(pointer), pointer_length, node, OR(error, none.error));
 }
 
 jsonptr_status jsonptr_document_assign(jsonptr_document *document, const char *pointer, size_t pointer_length,
@@ -227,19 +251,23 @@ jsonptr_status jsonptr_document_patch_with_inverse(jsonptr_document *document, c
     if (document == NULL || !is_slice(text, text_length) || !is_known(flags) || !is_slice(out, capacity)) {
         return bad_argument(error);
     }
-    return jsonptrcore_document_patch_with_inverse(document, start_of(text), text_length, flags & JSONPTR_PRETTY,
-                                                   OR(out, none.buffer), capacity, OR(length, none.length),
-                                                   OR(error, none.error));
+    size_t *size = OR(length, none.length);
+    jsonptr_status status = jsonptrcore_document_patch_with_inverse(document, start_of(text), text_length,
+        flags & JSONPTR_PRETTY, OR(out, none.buffer), capacity, size, OR(error, none.error));
+    return ended(status, out, capacity, size);
 }
 
-jsonptr_status jsonptr_document_diff(jsonptr_document *from, jsonptr_document *to, uint32_t flags, char *out,
+jsonptr_status jsonptr_document_diff(const jsonptr_document *from, const jsonptr_document *to, uint32_t flags, char *out,
                                      size_t capacity, size_t *length, jsonptr_error *error) {
     unwanted none;
     if (from == NULL || to == NULL || from == to || !is_known(flags) || !is_slice(out, capacity)) {
         return bad_argument(error);
     }
-    return jsonptrcore_document_diff(from, to, flags & JSONPTR_PRETTY, OR(out, none.buffer), capacity,
-                                     OR(length, none.length), OR(error, none.error));
+    size_t *size = OR(length, none.length);
+    jsonptr_document copy = *from, other = *to;
+    jsonptr_status status = jsonptrcore_document_diff(&copy, &other, flags & JSONPTR_PRETTY, OR(out, none.buffer),
+        capacity, size, OR(error, none.error));
+    return ended(status, out, capacity, size);
 }
 
 jsonptr_status jsonptr_resolve_in_text(const char *text, size_t text_length, const char *pointer, size_t pointer_length,
@@ -250,9 +278,10 @@ jsonptr_status jsonptr_resolve_in_text(const char *text, size_t text_length, con
         !is_slice(out, capacity)) {
         return bad_argument(error);
     }
-    return jsonptrcore_resolve_in_text(start_of(text), text_length, start_of(pointer), pointer_length,
-                                  flags & JSONPTR_PRETTY, OR(out, none.buffer), capacity, OR(length, none.length),
-                                  OR(error, none.error));
+    size_t *size = OR(length, none.length);
+    jsonptr_status status = jsonptrcore_resolve_in_text(start_of(text), text_length, start_of(pointer),
+        pointer_length, flags & JSONPTR_PRETTY, OR(out, none.buffer), capacity, size, OR(error, none.error));
+    return ended(status, out, capacity, size);
 }
 
 jsonptr_status jsonptr_lost_number_in_text(const char *text, size_t text_length, bool *found, char *out,
@@ -261,8 +290,10 @@ jsonptr_status jsonptr_lost_number_in_text(const char *text, size_t text_length,
     if (!is_slice(text, text_length) || !is_slice(out, capacity)) {
         return bad_argument(error);
     }
-    return jsonptrcore_lost_number_in_text(start_of(text), text_length, OR(found, none.found), OR(out, none.buffer),
-                                        capacity, OR(length, none.length), OR(error, none.error));
+    size_t *size = OR(length, none.length);
+    jsonptr_status status = jsonptrcore_lost_number_in_text(start_of(text), text_length, OR(found, none.found),
+        OR(out, none.buffer), capacity, size, OR(error, none.error));
+    return ended(status, out, capacity, size);
 }
 
 jsonptr_status jsonptr_locate_in_text(const char *text, size_t text_length, const char *pointer, size_t pointer_length,
@@ -281,8 +312,10 @@ jsonptr_status jsonptr_pointer_at_in_text(const char *text, size_t text_length, 
     if (!is_slice(text, text_length) || !is_slice(out, capacity)) {
         return bad_argument(error);
     }
-    return jsonptrcore_pointer_at_in_text(start_of(text), text_length, offset, OR(out, none.buffer), capacity,
-                                       OR(length, none.length), OR(error, none.error));
+    size_t *size = OR(length, none.length);
+    jsonptr_status status = jsonptrcore_pointer_at_in_text(start_of(text), text_length, offset, OR(out, none.buffer),
+        capacity, size, OR(error, none.error));
+    return ended(status, out, capacity, size);
 }
 
 const char *jsonptr_version(void) {

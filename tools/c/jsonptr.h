@@ -43,11 +43,13 @@
  *             zero and is never written to. Texts are UTF-8. The empty text, as
  *             a pointer, is the whole document. A byte order mark at the start
  *             of a JSON text is JSONPTR_NOT_JSON at offset 0.
- * Results     A result is copied to a buffer of the caller. No zero is put
- *             after it. `*length` is set to the length of the result, also by
- *             JSONPTR_NO_ROOM, where the buffer is shorter: so call with
- *             capacity 0 (NULL is allowed then) to learn a length, or call
- *             again with a buffer that long. Other errors leave `*length`.
+ * Results     A result is copied to a buffer of the caller. If the buffer is
+ *             longer, a zero follows the result, and the bytes after that are
+ *             unspecified. A result can contain zeros itself. `*length` is set to
+ *             the length of the result without that zero, also by JSONPTR_NO_ROOM,
+ *             where the buffer is shorter: so call with capacity 0 (NULL is allowed
+ *             then) to learn a length, or call again with a buffer that long. Other
+ *             errors leave `*length`.
  * Ownership   The caller owns texts, buffers and the struct of a handle. The
  *             library owns only the document in a handle, until
  *             jsonptr_document_free. It keeps no pointer to what it is passed,
@@ -75,10 +77,13 @@
  * Keys        Of a repeated key the last member counts. Members are printed in
  *             the order of their keys.
  * Threads     There are no globals. Two threads may use two documents at once.
- *             ONE DOCUMENT IS FOR ONE CALL AT A TIME, READING INCLUDED: a lock
- *             is needed even if all threads only read. The calls on pointers,
- *             and those that end in _in_text, have no document, and need no lock.
- *             No call may be made in a signal handler.
+ *             Any number of threads may read one at once, by the calls whose
+ *             `document` is const: jsonptr_document_print, _get, _string, _node
+ *             and _diff. A CALL THAT CHANGES OR FREES A DOCUMENT IS ALONE: no other
+ *             call uses the document at that time, so take a lock around both.
+ *             The calls on pointers, and those that end in _in_text, have no
+ *             document, and need no lock. No call may be made in a signal handler,
+ *             nor in a process that was forked while another thread was in a call.
  * Never       The library never prints, exits, aborts or waits.
  * Tested      What a call returns is proved, except for what docs/PROVED.md of
  *             the project lists as tested: among it `*length` where the result
@@ -96,12 +101,15 @@
  * counts the stack. So this must hold of each call, or its behavior is undefined:
  *
  *  - A text of length n points to n bytes that no one writes to during the call.
- *  - A buffer of capacity n points to n writable bytes. They need no value.
+ *  - A buffer of capacity n points to n writable bytes. Neither they need a value
+ *    before a call, nor what it sets: `*found`, `*node`, `*error`, and `*length`
+ *    except in jsonptr_pointer_push and jsonptr_pointer_pop.
  *  - What a call writes to (a buffer, `*length`, `*error`, a handle ...) overlaps
  *    nothing else that is passed to it.
  *  - A handle was JSONPTR_DOCUMENT_INIT (or all zeros) before its first call. It
  *    is changed by these calls alone. It may be moved by memcpy, but a copy must
- *    not be used beside the original.
+ *    not be used beside the original. While a call changes or frees its document,
+ *    no other call uses it.
  *  - The stack has room. Calls recurse into a document, with at most 660 bytes a
  *    level in our measurements: 128 KiB are enough for a document that was read,
  *    and 8 MiB, the usual size on Linux, for one of 10,127 levels. On a thread
@@ -117,6 +125,10 @@
 #include <stdbool.h>
 #include <stddef.h>
 #include <stdint.h>
+
+#if !defined(__x86_64__) || !defined(__LP64__)
+#error "libjsonptr is built for x86-64 processors with pointers of 64 bits alone"
+#endif
 
 /* The version of this header. jsonptr_version says that of the library. A version
  * that ends in "-dev" is not released, and has the numbers of the one that will be.
@@ -136,7 +148,8 @@
 #endif
 
 /* A status that must be looked at. Define it as nothing before the header to
- * have no warnings. */
+ * have no warnings. To pass over one status, write if (call(..)) {}: with GCC a
+ * cast to void warns too. */
 #ifndef JSONPTR_NODISCARD
 #if defined(__GNUC__)
 #define JSONPTR_NODISCARD __attribute__((warn_unused_result))
@@ -156,7 +169,7 @@ typedef uint32_t jsonptr_status;
 #define JSONPTR_OK            0u  /* the call succeeded */
 #define JSONPTR_NO_MEMORY     1u  /* malloc or realloc returned NULL */
 #define JSONPTR_NO_ROOM       2u  /* the buffer is shorter than the result */
-#define JSONPTR_BAD_ARGUMENT  3u  /* NULL, a length above PTRDIFF_MAX, an unknown flag, or one document passed twice */
+#define JSONPTR_BAD_ARGUMENT  3u  /* NULL, a length above PTRDIFF_MAX, an unknown flag, one document passed twice, or a pointer that is longer than its buffer */
 #define JSONPTR_NO_DOCUMENT   4u  /* the handle holds no document */
 #define JSONPTR_NOT_UTF8      5u  /* a text is not UTF-8 */
 #define JSONPTR_NOT_JSON      6u  /* a text is not a JSON text */
@@ -338,13 +351,14 @@ jsonptr_status jsonptr_pointer_escape(const char *token, size_t token_length,
 /* Appends a token to a pointer in a buffer. The token is not escaped yet.
  *
  *     char path[256]; size_t length = 0;                     // ""
- *     jsonptr_pointer_push(path, sizeof path, &length, "a/b", 3, NULL);   // "/a~1b"
+ *     if (jsonptr_pointer_push(path, sizeof path, &length, "a/b", 3, NULL) == JSONPTR_OK)
+ *         puts(path);                                         // /a~1b
  *
  * buffer    has the pointer in its first `*length` bytes.
  * length    is the length of the pointer, and is set to that of the longer one.
- *           An error leaves it and the buffer; of JSONPTR_NO_ROOM the length
+ *           An error leaves it and the buffer, JSONPTR_NO_ROOM too: the length
  *           that is needed is `error->length`.
- * Returns   JSONPTR_OK, JSONPTR_NO_ROOM if `*length` is above the capacity,
+ * Returns   JSONPTR_OK, JSONPTR_BAD_ARGUMENT also if `*length` is above the capacity,
  *           those of jsonptr_pointer_count for the pointer, JSONPTR_NOT_UTF8 with
  *           offset for the token, JSONPTR_NO_ROOM, JSONPTR_NO_MEMORY.
  * error     may be NULL.
@@ -367,7 +381,10 @@ jsonptr_status jsonptr_pointer_pop(const char *pointer, size_t *length,
 
 /* ---- Documents --------------------------------------------------------- */
 
-/* A handle: a document, or none. Its fields are for the library alone. */
+/* A handle: a document, or none. Its fields are for the library alone. Threads may
+ * read one document at once, and only while no call changes it ("Threads", above).
+ * JSONPTR_DOCUMENT_INIT is for a declaration. memset(&document, 0, sizeof document)
+ * makes the same of a variable that holds no document. */
 typedef struct jsonptr_document {
     void *private_address;
     bool private_is_full;
@@ -375,7 +392,8 @@ typedef struct jsonptr_document {
 
 #define JSONPTR_DOCUMENT_INIT { NULL, false }
 
-/* Flags of a call that prints. Any other bit is JSONPTR_BAD_ARGUMENT. */
+/* Flags of a call that prints. Any other bit is JSONPTR_BAD_ARGUMENT. No two flags
+ * of this header are the same bit. */
 #define JSONPTR_COMPACT 0u  /* no spaces */
 #define JSONPTR_PRETTY  1u  /* on lines, indented by two spaces, no newline at the end */
 
@@ -427,7 +445,7 @@ JSONPTR_API void jsonptr_document_free(jsonptr_document *document);
  * length    may be NULL, and so may `error`.
  * Cost      linear in the text, which is allocated and freed on the way. */
 JSONPTR_API JSONPTR_NODISCARD
-jsonptr_status jsonptr_document_print(jsonptr_document *document, uint32_t flags,
+jsonptr_status jsonptr_document_print(const jsonptr_document *document, uint32_t flags,
                                       char *out, size_t capacity, size_t *length,
                                       jsonptr_error *error);
 
@@ -440,7 +458,7 @@ jsonptr_status jsonptr_document_print(jsonptr_document *document, uint32_t flags
  * Cost      linear in the pointer and in the text. Here and below each object on
  *           the way takes time logarithmic in its members. */
 JSONPTR_API JSONPTR_NODISCARD
-jsonptr_status jsonptr_document_get(jsonptr_document *document,
+jsonptr_status jsonptr_document_get(const jsonptr_document *document,
                                     const char *pointer, size_t pointer_length,
                                     uint32_t flags,
                                     char *out, size_t capacity, size_t *length,
@@ -453,22 +471,30 @@ jsonptr_status jsonptr_document_get(jsonptr_document *document,
  * length    may be NULL, and so may `error`.
  * Cost      linear in the pointer and in the string. */
 JSONPTR_API JSONPTR_NODISCARD
-jsonptr_status jsonptr_document_string(jsonptr_document *document,
+jsonptr_status jsonptr_document_string(const jsonptr_document *document,
                                        const char *pointer, size_t pointer_length,
                                        char *out, size_t capacity, size_t *length,
                                        jsonptr_error *error);
 
 /* The type of a value: jsonptr_node.type. */
-#define JSONPTR_NULL    0u
-#define JSONPTR_BOOLEAN 1u
-#define JSONPTR_NUMBER  2u
-#define JSONPTR_STRING  3u
-#define JSONPTR_ARRAY   4u
-#define JSONPTR_OBJECT  5u
+#define JSONPTR_TYPE_NULL    0u
+#define JSONPTR_TYPE_BOOLEAN 1u
+#define JSONPTR_TYPE_NUMBER  2u
+#define JSONPTR_TYPE_STRING  3u
+#define JSONPTR_TYPE_ARRAY   4u
+#define JSONPTR_TYPE_OBJECT  5u
+
+/* The same by their names of version 0.2. */
+#define JSONPTR_NULL    JSONPTR_TYPE_NULL
+#define JSONPTR_BOOLEAN JSONPTR_TYPE_BOOLEAN
+#define JSONPTR_NUMBER  JSONPTR_TYPE_NUMBER
+#define JSONPTR_STRING  JSONPTR_TYPE_STRING
+#define JSONPTR_ARRAY   JSONPTR_TYPE_ARRAY
+#define JSONPTR_OBJECT  JSONPTR_TYPE_OBJECT
 
 /* What a value is. */
 typedef struct jsonptr_node {
-    uint32_t type;      /* JSONPTR_NULL .. JSONPTR_OBJECT */
+    uint32_t type;      /* JSONPTR_TYPE_NULL .. JSONPTR_TYPE_OBJECT */
     bool has_integer;   /* the value is a number, and `integer` is it */
     bool has_natural;   /* the value is a number, and `natural` is it */
     bool is_true;       /* the value is true */
@@ -491,7 +517,7 @@ typedef struct jsonptr_node {
  * Cost      linear in the pointer and in a string. Allocates only for a token
  *           with a '~'. */
 JSONPTR_API JSONPTR_NODISCARD
-jsonptr_status jsonptr_document_node(jsonptr_document *document,
+jsonptr_status jsonptr_document_node(const jsonptr_document *document,
                                      const char *pointer, size_t pointer_length,
                                      jsonptr_node *node, jsonptr_error *error);
 
@@ -607,7 +633,7 @@ jsonptr_status jsonptr_document_patch_with_inverse(jsonptr_document *document,
  * length    may be NULL, and so may `error`.
  * Cost      linear in both documents, except for long arrays that differ. */
 JSONPTR_API JSONPTR_NODISCARD
-jsonptr_status jsonptr_document_diff(jsonptr_document *from, jsonptr_document *to,
+jsonptr_status jsonptr_document_diff(const jsonptr_document *from, const jsonptr_document *to,
                                      uint32_t flags,
                                      char *out, size_t capacity, size_t *length,
                                      jsonptr_error *error);

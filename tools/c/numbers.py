@@ -16,7 +16,7 @@ def text_of(path):
 def defined():
     """Returns the numbers that jsonptr.h defines, by their names without the prefix."""
     rows = re.findall(r"^#define JSONPTR_(\w+) +(\d+)u?(?: |$)", text_of("tools/c/jsonptr.h"), re.M)
-    return {name: int(number) for name, number in rows}
+    return {re.sub("^TYPE_", "", name): int(number) for name, number in rows}
 
 
 def of_calls():

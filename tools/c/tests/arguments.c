@@ -26,6 +26,10 @@ static void check_bad(void) {
     EXPECT(jsonptr_pointer_push(NULL, 8, &length, "a", 1, NULL), BAD);
     EXPECT(jsonptr_pointer_push(out, 8, NULL, "a", 1, NULL), BAD);
     EXPECT(jsonptr_pointer_push(out, 8, &length, NULL, 1, NULL), BAD);
+    length = 9;
+    EXPECT(jsonptr_pointer_push(out, 8, &length, "a", 1, NULL), BAD);
+    expect_number("length", "9 of 8 bytes", length, 9);
+    length = 1;
     EXPECT(jsonptr_pointer_pop(NULL, &length, NULL), BAD);
     EXPECT(jsonptr_pointer_pop("", NULL, NULL), BAD);
     EXPECT(jsonptr_document_parse(NULL, "1", 1, NULL), BAD);
@@ -61,6 +65,7 @@ static void check_bad(void) {
     EXPECT(jsonptr_document_diff(&document, &document, 0, out, 8, &length, NULL), BAD);
     EXPECT(jsonptr_document_diff(&document, NULL, 0, out, 8, &length, NULL), BAD);
     EXPECT(jsonptr_document_diff(NULL, &document, 0, out, 8, &length, NULL), BAD);
+    EXPECT(jsonptr_document_diff(&document, &other, 0, NULL, 8, &length, NULL), BAD);
     EXPECT(jsonptr_resolve_in_text(NULL, 1, "", 0, 0, out, 8, &length, NULL), BAD);
     EXPECT(jsonptr_resolve_in_text("1", 1, NULL, 1, 0, out, 8, &length, NULL), BAD);
     EXPECT(jsonptr_resolve_in_text("1", 1, "", 0, 0, NULL, 8, &length, NULL), BAD);
@@ -124,8 +129,49 @@ static void check_empty(void) {
     jsonptr_document_free(&document);
 }
 
+/* Checks that a result of a call that has room is followed by a zero, and that one that just fits is not. */
+#define ENDS(result, call, length)                                                   \
+    do {                                                                             \
+        size_t capacity = strlen(result) + 1;                                        \
+        memset(out, '#', sizeof out);                                                \
+        EXPECT(call, JSONPTR_OK);                                                    \
+        expect_text("result", #call, out, strlen(out), result);                      \
+        expect_number("byte after the zero", #call, (unsigned char)out[capacity], '#'); \
+        capacity--;                                                                  \
+        memset(out, '#', sizeof out);                                                \
+        length;                                                                      \
+        EXPECT(call, JSONPTR_OK);                                                    \
+        expect_number("byte after the result", #call, (unsigned char)out[capacity], '#'); \
+    } while (0)
+
+static void check_zero(void) {
+    jsonptr_document document = parsed("[\"abc\"]"), other = parsed("[]");
+    jsonptr_error error = { .status = JSONPTR_NOT_JSON };
+    char out[64];
+    size_t n = 0;
+    bool found;
+    ENDS("text is not JSON", jsonptr_error_message(&error, out, capacity, &n), (void)0);
+    ENDS("~b", jsonptr_pointer_token("/~0b", 4, 0, out, capacity, &n, NULL), (void)0);
+    ENDS("~1", jsonptr_pointer_escape("/", 1, out, capacity, NULL, NULL), (void)0);
+    ENDS("/a", (n = 0, jsonptr_pointer_push(out, capacity, &n, "a", 1, NULL)), n = 0);
+    ENDS("[\"abc\"]", jsonptr_document_print(&document, 0, out, capacity, NULL, NULL), (void)0);
+    ENDS("\"abc\"", jsonptr_document_get(&document, "/0", 2, 0, out, capacity, &n, NULL), (void)0);
+    ENDS("abc", jsonptr_document_string(&document, "/0", 2, out, capacity, &n, NULL), (void)0);
+    ENDS("[]", jsonptr_document_patch_with_inverse(&document, "[]", 2, 0, out, capacity, &n, NULL), (void)0);
+    ENDS("[{\"op\":\"remove\",\"path\":\"/0\"}]", jsonptr_document_diff(&document, &other, 0, out, capacity, &n, NULL), (void)0);
+    ENDS("7", jsonptr_resolve_in_text("[7]", 3, "/0", 2, 0, out, capacity, &n, NULL), (void)0);
+    ENDS("/0", jsonptr_lost_number_in_text("[1e-400]", 8, &found, out, capacity, &n, NULL), (void)0);
+    ENDS("/0", jsonptr_pointer_at_in_text("[7]", 3, 1, out, capacity, &n, NULL), (void)0);
+    memset(out, '#', sizeof out);
+    EXPECT(jsonptr_document_get(&document, "/1", 2, 0, out, sizeof out, NULL, NULL), JSONPTR_NOT_FOUND);
+    expect_number("first byte", "after an error", (unsigned char)out[0], '#');
+    jsonptr_document_free(&document);
+    jsonptr_document_free(&other);
+}
+
 int main(void) {
     check_bad();
+    check_zero();
     check_empty();
     return report("arguments");
 }

@@ -445,7 +445,7 @@ static void check_two_texts(void) {
                   JSONPTR_NOT_POINTER);
     length = 9;
     expect_number("length first", "9 of 8 bytes", jsonptr_pointer_push(out, sizeof out, &length, "\xff", 1, &error),
-                  JSONPTR_NO_ROOM);
+                  JSONPTR_BAD_ARGUMENT);
     expect_document("the document", &document, "[7]");
     jsonptr_document_free(&document);
 }

@@ -1,10 +1,27 @@
-/* Eight threads, each with a document of its own, and with calls that need none. */
+/* Eight threads, each with a document of its own, with calls that need none, and with one that all of them read. */
 #include "tests.h"
 
 #include <pthread.h>
 
 #define THREADS 8
 #define ROUNDS 2000
+
+/* What all threads read at once. */
+static jsonptr_document shared = JSONPTR_DOCUMENT_INIT, other = JSONPTR_DOCUMENT_INIT;
+
+/* Reads the shared document by each call that only reads, and returns the number of wrong results. */
+static size_t read_shared(void) {
+    char out[64];
+    size_t length = 0, wrong = 0;
+    jsonptr_node node;
+    wrong += jsonptr_document_node(&shared, "/a", 2, &node, NULL) != JSONPTR_OK || node.length != 2;
+    wrong += jsonptr_document_string(&shared, "/a/1", 4, out, sizeof out, &length, NULL) != JSONPTR_OK || strcmp(out, "two") != 0;
+    wrong += jsonptr_document_print(&shared, 0, out, sizeof out, &length, NULL) != JSONPTR_OK || strcmp(out, "{\"a\":[1,\"two\"]}") != 0;
+    wrong += jsonptr_document_get(&shared, "/b", 2, 0, out, sizeof out, &length, NULL) != JSONPTR_NOT_FOUND;
+    wrong += jsonptr_document_diff(&shared, &other, 0, out, sizeof out, &length, NULL) != JSONPTR_OK;
+    wrong += strcmp(out, "[{\"op\":\"remove\",\"path\":\"/a/1\"}]") != 0;
+    return wrong;
+}
 
 /* Returns the number of wrong results. */
 static void *run(void *number) {
@@ -22,6 +39,7 @@ static void *run(void *number) {
         wrong += jsonptr_resolve_in_text(text, (size_t)text_length, "/a/1", 4, 0, out, sizeof out, &length, NULL)
                  != JSONPTR_OK;
         wrong += length != (size_t)wanted_length || memcmp(out, wanted, length) != 0;
+        wrong += read_shared();
         jsonptr_document_free(&document);
     }
     return (void *)wrong;
@@ -30,6 +48,8 @@ static void *run(void *number) {
 int main(void) {
     pthread_t threads[THREADS];
     int numbers[THREADS];
+    shared = parsed("{\"a\": [1, \"two\"]}");
+    other = parsed("{\"a\": [1]}");
     for (int i = 0; i < THREADS; i++) {
         numbers[i] = i;
         expect_number("start", "a thread", (unsigned long long)pthread_create(&threads[i], NULL, run, &numbers[i]), 0);
@@ -39,5 +59,7 @@ int main(void) {
         expect_number("end", "a thread", (unsigned long long)pthread_join(threads[i], &wrong), 0);
         expect_number("wrong results", "a thread", (size_t)wrong, 0);
     }
+    jsonptr_document_free(&shared);
+    jsonptr_document_free(&other);
     return report("threads");
 }
