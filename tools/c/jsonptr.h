@@ -122,13 +122,13 @@
 #ifndef JSONPTR_H
 #define JSONPTR_H
 
-#include <stdbool.h>
-#include <stddef.h>
-#include <stdint.h>
-
 #if !defined(__x86_64__) || !defined(__LP64__)
 #error "libjsonptr is built for x86-64 processors with pointers of 64 bits alone"
 #endif
+
+#include <stdbool.h>
+#include <stddef.h>
+#include <stdint.h>
 
 /* The version of this header. jsonptr_version says that of the library. A version
  * that ends in "-dev" is not released, and has the numbers of the one that will be.
