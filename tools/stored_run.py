@@ -8,14 +8,14 @@ The input is a few requests, the cases of call_cases.py of at most 600 character
 `run_program`. The output is put together from the results that they state, and never from a run. So `rt ci` fails if a call has
 another result, also one that its contract allows, as a failed allocation.
 """
-import os
 import sys
 
 import process
+import repository
 from call_cases import CASES
-from harness import TOP, line_of
+from harness import line_of
 
-CRATE = f"{TOP}/crates/jsonptr_tool_calls"
+CRATE = f"{repository.CRATES}/jsonptr_tool_calls"
 MOST_CHARACTERS = 600
 NO_SLASH = "json pointer failed to parse; does not start with a slash ('/') and is not empty"
 PAST_THE_END = (
@@ -42,8 +42,8 @@ REQUESTS = [
     )),
     (("resolve", "json", '{"a":[1,{"b":null}]}', "/a/1/b"), ("value=null",)),
     (("resolve", "toml", "{ a = [1] }", "/a/-"), (
-        "error=OutOfBounds", "position=1", "offset=2", "cause=1,1 index 1 out of bounds (len: 1)", "is_failed_to_parse_index=false",
-        "is_out_of_bounds=true", "is_not_found=false", "is_unreachable=false",
+        "error=OutOfBounds", "position=1", "offset=2", "cause=1,1 index 1 out of bounds (len: 1)",
+        "is_failed_to_parse_index=false", "is_out_of_bounds=true", "is_not_found=false", "is_unreachable=false",
         "display=resolve failed: json pointer token at offset 2 is out of bounds", r"label=3+1 index 1 out of bounds (len: 1)\;",
     )),
     (("assign", "json", '{"a":{}}', "/a/0/x", "7"), ("old=None", 'document={"a":{"0":{"x":7}}}')),
@@ -124,18 +124,22 @@ def runs():
                 yield ("case", "program", *words), MARKS + (case.output or case.message)
 
 
+def requests():
+    """Yields the words of each request, and what is written for it."""
+    for words, fields in REQUESTS:
+        yield words, "\t".join(fields) + "\n"
+
+
 def main():
-    requests = [(words, "\t".join(fields) + "\n") for words, fields in REQUESTS]
-    rows = [*requests, *calls(), *runs()]
+    rows = [*requests(), *calls(), *runs()]
     made = {"stdin": "".join(line_of(*words) for words, _ in rows), "stdout": "".join(text for _, text in rows)}
     for name, text in made.items():
         path = f"{CRATE}/{name}"
         if "--write" in sys.argv[1:]:
-            with open(path, "w", encoding="utf-8") as file:
-                file.write(text)
-        elif not os.path.exists(path) or open(path, encoding="utf-8").read() != text:
+            repository.write(path, text)
+        elif repository.read(path) != text:
             sys.exit(f"stored_run: {name} of jsonptr_tool_calls is not what the cases state: run tools/stored_run.py --write")
-    print(f"stored_run: {len(REQUESTS)} requests, {len([*calls()])} cases and {len([*runs()])} runs of the program")
+    print(f"stored_run: {len(rows)} lines for jsonptr_tool_calls")
 
 
 if __name__ == "__main__":
