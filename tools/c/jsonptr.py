@@ -20,47 +20,55 @@ A module without dependencies. Documents cross to the library as JSON text:
     >>> document.text()
     '{"sizes":[3,5,8]}'
 
-A number that is no integer of 64 bits is the nearest double, so its digits may be lost. `exact` makes that an error:
+In the library a number that is no integer of 64 bits is the nearest double. If a number would lose digits, in a text, in a
+patch or in a Python value, the call raises `NotExact`. With `lossy=True` it takes the double:
 
     >>> text = '{"id": 12345678901234567890123}'
-    >>> jsonptr.Document(text).text()
-    '{"id":1.2345678901234568e+22}'
-    >>> jsonptr.Document(text, exact=True)
+    >>> jsonptr.Document(text)
     Traceback (most recent call last):
         ...
     jsonptr.NotExact: the number at /id loses digits
+    >>> jsonptr.Document(text, lossy=True).text()
+    '{"id":1.2345678901234568e+22}'
     >>> jsonptr.lost_number(text)
     '/id'
 
-Where a value is in a text, and which value is at an offset, both in bytes:
+Where a value is in a text, and which value is at an offset. Both count the characters of a `str`, and the bytes of `bytes`:
 
-    >>> start, end = jsonptr.locate('{"sizes": [3.0, 5]}', "/sizes/0")
-    >>> start, end, '{"sizes": [3.0, 5]}'[start:end]
-    (11, 14, '3.0')
-    >>> jsonptr.pointer_at('{"sizes": [3.0, 5]}', 12)
-    '/sizes/0'
+    >>> text = '["\u00e9", 1.00]'
+    >>> start, end = jsonptr.locate(text, "/1")
+    >>> start, end, text[start:end], jsonptr.pointer_at(text, start)
+    (6, 10, '1.00', '/1')
+    >>> jsonptr.locate(text.encode(), "/1")
+    Span(start=7, end=11)
 
-Each error that a call raises is a `JsonPointerError`, or a `TypeError` or `MemoryError`. Errors, documents and patches
-can be copied and pickled.
+Each error that a call raises is a `JsonptrError`, or a `TypeError` or `MemoryError`. Errors, documents and patches can be
+copied and pickled. The module needs Python 3.8 or later.
 
 The library is searched for beside this file, in `../lib` and `../../lib`, and where the system has its libraries. The
 environment variable JSONPTR_LIBRARY names another file. The import fails with `ImportError` if there is no library, or one
-of another version. Threads may share a `Document`, which has a lock; the lock of Python is free while the library works.
+of another version. Threads may share a `Document`, which has a lock; the lock of Python is free while the library works. In
+a process that was forked while another thread was in a call on a document, each call on it raises `RuntimeError`.
 """
+import copy
 import ctypes
 import json
 import operator
 import os
+import re
 import sys
 import threading
-from typing import Any, Dict, Iterator, List, NamedTuple, NoReturn, Optional, SupportsIndex, Tuple, Type, Union
+from typing import (Any, Dict, Iterator, List, Mapping, NamedTuple, NoReturn, Optional, Pattern, Sequence, SupportsIndex, Tuple,
+                    Type, Union)
 
-__all__ = ["Document", "JsonPointerError", "JsonPatchError", "NotExact", "NotFound", "Patch", "Span", "TooDeep", "escape",
-           "locate", "lost_number", "make_patch", "pointer_at", "resolve", "resolve_in_text", "tokens", "version"]
+__all__ = ["Document", "JsonPatchError", "JsonPointerError", "JsonptrError", "NotAssigned", "NotExact", "NotFound", "NotJson",
+           "NotPointer", "Patch", "Span", "TooDeep", "escape", "locate", "lost_number", "make_patch", "pointer_at", "resolve",
+           "resolve_in_text", "tokens", "version"]
 
 __version__ = "0.3.0-dev"
 
-Text = Union[str, bytes]
+Text = Union[str, bytes, bytearray, memoryview]
+JSON = Union[None, bool, int, float, str, Sequence["JSON"], Mapping[str, "JSON"]]
 
 OK, NO_MEMORY, NO_ROOM, BAD_ARGUMENT, NO_DOCUMENT, NOT_UTF8, NOT_JSON, NOT_POINTER, NO_TOKEN, NOT_FOUND, OTHER_TYPE, \
     NOT_ASSIGNED, NOT_PATCH, PATCH_FAILED, TOO_DEEP, NOT_EXACT, NOT_LOCATED, NO_VALUE = range(18)
@@ -129,14 +137,15 @@ _ANY_NUMBERS, _EXACT_NUMBERS = ctypes.c_uint32(0), ctypes.c_uint32(2)
 _scan: Any = getattr(json.JSONDecoder(), "scan_once")  # reads a text that begins with its value, as those of the library do
 
 
-class JsonPointerError(ValueError):
+class JsonptrError(ValueError):
     """An error of the library. Its message is that of the library for Rattle.
 
     `status` and `kind` are the numbers of jsonptr.h, which says in a table which error has which of the other fields.
     `position` is that of the token at fault, from 0, and `slash` the offset of the slash before it. `offset` and
     `length` are the bytes at fault, in UTF-8; of a text that is not JSON, `offset` is where reading stopped. A field
     that an error does not have is 0: a pointer in a patch has no `length`. `operation` and `member` are those of a
-    patch, or None. Of bytes that are not UTF-8, `member` is "pointer", "token" or "text".
+    patch, or None. Of bytes that are not UTF-8, `member` is "pointer", "token" or "text". A number that this module does
+    not know, of a later library, is None in `member`.
     """
 
     status: int = 0
@@ -156,31 +165,46 @@ class JsonPointerError(ValueError):
         return type(self), self.args, dict(self.__dict__)
 
 
-class NotFound(JsonPointerError, LookupError):
+JsonPointerError = JsonptrError  # its name in version 0.2
+
+
+class NotPointer(JsonptrError):
+    """A text is not a JSON Pointer."""
+
+
+class NotJson(JsonptrError):
+    """A text is not JSON, or a Python value has no JSON text."""
+
+
+class NotAssigned(JsonptrError):
+    """The pointer leads to an array that has no such index."""
+
+
+class NotFound(JsonptrError, LookupError):
     """The pointer does not resolve to a value, or no value is at the offset."""
 
 
-class JsonPatchError(JsonPointerError):
+class JsonPatchError(JsonptrError):
     """A document is not a patch, or an operation of it fails."""
 
 
-class TooDeep(JsonPointerError):
+class TooDeep(JsonptrError):
     """The document could nest deeper than 10,127 levels, or the patch that takes a patch back deeper than 127."""
 
 
-class NotExact(JsonPointerError):
-    """A number of a JSON text loses digits.
+class NotExact(JsonptrError):
+    """A number of a JSON text, of a patch or of a Python value would lose digits.
 
-    `pointer` identifies the first one, and is None if the key of a member that it is in comes again. `offset` and
-    `length` are its bytes in the text.
+    `pointer` identifies the first one in that text, patch or value, and is None if the key of a member that it is in comes
+    again. `offset` and `length` are its bytes in the text, or in the JSON text of the value.
     """
 
     pointer: Optional[str] = None
 
 
-_CLASSES: Dict[int, Type[JsonPointerError]] = {
-    NOT_FOUND: NotFound, NO_VALUE: NotFound, NOT_PATCH: JsonPatchError, PATCH_FAILED: JsonPatchError, TOO_DEEP: TooDeep,
-    NOT_EXACT: NotExact}
+_CLASSES: Dict[int, Type[JsonptrError]] = {
+    NOT_JSON: NotJson, NOT_POINTER: NotPointer, NOT_FOUND: NotFound, NO_VALUE: NotFound, NOT_ASSIGNED: NotAssigned,
+    NOT_PATCH: JsonPatchError, PATCH_FAILED: JsonPatchError, TOO_DEEP: TooDeep, NOT_EXACT: NotExact}
 
 
 def _fail(status: int, error: _Error) -> NoReturn:
@@ -189,36 +213,32 @@ def _fail(status: int, error: _Error) -> NoReturn:
         raise MemoryError
     fields = {name: getattr(error, name) for name in ("status", "kind", "position", "slash", "offset", "length")}
     operation = error.operation if error.status in (NOT_PATCH, PATCH_FAILED) else None
-    raise _CLASSES.get(status, JsonPointerError)(
-        _message(error), operation=operation, member=MEMBERS[error.member], **fields)
+    member = MEMBERS[error.member] if error.member < len(MEMBERS) else None
+    raise _CLASSES.get(status, JsonptrError)(_message(error), operation=operation, member=member, **fields)
 
 
 class _Buffer:
-    """A buffer for results, which grows."""
+    """A buffer for results."""
 
     __slots__ = "bytes", "at_bytes", "size", "length", "at_length", "error", "at_error"
 
-    def __init__(self, size: int = 512) -> None:
+    def __init__(self, size: int) -> None:
         self.length, self.error = _size(), _Error()
         self.at_length, self.at_error = _at(self.length), _at(self.error)
-        self.grow(size)
-
-    def grow(self, size: int) -> None:
-        """Replaces the buffer by one of so many bytes."""
-        self.size = _size(size)
         self.bytes: Any = ctypes.create_string_buffer(size)
-        self.at_bytes = _at(self.bytes)
+        self.at_bytes, self.size = _at(self.bytes), _size(size)
 
     def fill(self, call: Any, *arguments: Any) -> bytes:
-        """Calls a function that copies a result to the buffer, and returns the result."""
+        """Calls a function that copies a result to the buffer, and returns the result.
+
+        If the buffer is too short, the call is made again with one of the length that the first call told.
+        """
         status = call(*arguments, self.at_bytes, self.size, self.at_length, self.at_error)
-        if status:
-            if status == NO_ROOM:
-                self.grow(max(self.length.value, 2 * self.size.value))
-                status = call(*arguments, self.at_bytes, self.size, self.at_length, self.at_error)
-            if status:
-                _fail(status, self.error)
-        return bytes(self.bytes[:self.length.value])
+        if not status:
+            return bytes(self.bytes[:self.length.value])
+        if status == NO_ROOM:
+            return _Buffer(self.length.value).fill(call, *arguments)
+        _fail(status, self.error)
 
 
 def _message(error: _Error) -> str:
@@ -229,7 +249,7 @@ def _message(error: _Error) -> str:
 
 
 def _bytes(text: Text) -> bytes:
-    """Returns the UTF-8 of a string, and bytes as they are, of these very types."""
+    """Returns the UTF-8 of a string, and bytes as they are. The result is of the type `bytes` itself."""
     if type(text) is bytes:
         return text
     if isinstance(text, str):
@@ -237,8 +257,8 @@ def _bytes(text: Text) -> bytes:
             return str.encode(text)
         except UnicodeEncodeError as error:
             before = len(str.encode(str.__getitem__(text, slice(error.start))))
-            raise JsonPointerError(f"text is not UTF-8: {error}", status=NOT_UTF8, offset=before) from None
-    if isinstance(text, bytes):
+            raise JsonptrError(f"text is not UTF-8: {error}", status=NOT_UTF8, offset=before) from None
+    if isinstance(text, (bytes, bytearray, memoryview)):
         return memoryview(text).tobytes()
     raise TypeError(f"a str or bytes is needed, not {type(text).__name__}")
 
@@ -249,16 +269,30 @@ def _text(text: Text) -> Tuple[bytes, ctypes.c_size_t]:
     return text, _size(len(text))
 
 
-def _json(value: Any) -> bytes:
-    """Returns the JSON text of a value."""
+# What a JSON text has in which a number loses digits: an exponent, or 17 digits and points in a row. Two decimals of 15 digits
+# never have one double, and an integer of 16 digits is one of 64 bits. Of the numbers that Python writes, no float loses any.
+_MAY_LOSE = re.compile(rb"[0-9.]{17}|[0-9.][eE]")
+_LONG_INTEGER = re.compile(rb"[0-9]{19}")
+
+
+def _exact(text: bytes, lossy: bool, suspect: Pattern[bytes] = _MAY_LOSE) -> bytes:
+    """Returns a JSON text. Raises `NotExact` if a number of it loses digits, unless `lossy`."""
+    if not lossy and suspect.search(text):
+        Document(text)
+    return text
+
+
+def _json(value: JSON, lossy: bool) -> bytes:
+    """Returns the JSON text of a value. Raises `NotExact` if a number of it loses digits, unless `lossy`."""
     try:
-        return _bytes(json.dumps(value, separators=(",", ":"), ensure_ascii=False, allow_nan=False))
-    except JsonPointerError:
+        text = _bytes(json.dumps(value, separators=(",", ":"), ensure_ascii=False, allow_nan=False))
+    except JsonptrError:
         raise
     except RecursionError:
         raise TooDeep("the value nests too deep for Python's json", status=TOO_DEEP) from None
     except ValueError as error:
-        raise JsonPointerError(f"the value is not JSON: {error}", status=NOT_JSON) from None
+        raise NotJson(f"the value is not JSON: {error}", status=NOT_JSON) from None
+    return _exact(text, lossy, _LONG_INTEGER)
 
 
 def _value(text: bytes) -> Any:
@@ -290,25 +324,33 @@ def tokens(pointer: Text) -> List[str]:
 def escape(token: Text) -> str:
     """Returns a token as it is written in a pointer."""
     text = _text(token)
-    return _Buffer(len(text[0]) + 16).fill(_escape, *text).decode()
+    return _Buffer(2 * len(text[0]) + 1).fill(_escape, *text).decode()
 
 
-def resolve(document: Any, pointer: Text) -> Any:
+def resolve(document: Union["Document", JSON], pointer: Text) -> Any:
     """Returns the value that the pointer resolves to in a `Document` or in a Python value.
 
-    A Python value crosses to the library as JSON text, whole. To resolve more than once, make a `Document`.
+    A Python value crosses to the library as JSON text, whole. To resolve more than once, make a `Document`. Of a Python value
+    the result is read from that text, so each number has all its digits, and members have their order.
     """
     if isinstance(document, Document):
         return document.resolve(pointer)
-    return _value(resolve_in_text(_json(document), pointer))
+    text = _json(document, lossy=True)
+    start, end = _located(text, pointer)
+    return _value(text[start:end])
 
 
-def resolve_in_text(text: Text, pointer: Text) -> bytes:
+def resolve_in_text(text: Text, pointer: Text, *, lossy: bool = False) -> bytes:
     """Returns the JSON text of the value that the pointer resolves to in a JSON text, as bytes.
 
-    If both the text and the pointer are at fault, the error is the pointer's.
+    Raises `NotExact` if a number of that value loses digits, with its pointer and bytes there, unless `lossy`. If both the text
+    and the pointer are at fault, the error is the pointer's.
     """
-    return _Buffer().fill(_in_text, *_text(text), *_text(pointer), _COMPACT)
+    data = _bytes(text)
+    if not lossy and _MAY_LOSE.search(data):
+        start, end = _located(data, pointer)
+        _exact(data[start:end], lossy)
+    return _Buffer(len(data) + 32).fill(_in_text, *_text(data), *_text(pointer), _COMPACT)
 
 
 def lost_number(text: Text) -> Optional[str]:
@@ -317,54 +359,72 @@ def lost_number(text: Text) -> Optional[str]:
     A number loses digits if the library prints it with another decimal value: 1.10 and 1e5 lose none. The error is
     `NotExact` if the number has no pointer, since the key of a member that it is in comes again.
     """
-    found = ctypes.c_bool()
-    pointer = _Buffer().fill(_lost_number, *_text(text), _at(found))
+    data, found = _text(text), ctypes.c_bool()
+    pointer = _Buffer(min(len(data[0]) + 1, _MOST_KEPT)).fill(_lost_number, *data, _at(found))
     return pointer.decode() if found.value else None
 
 
 class Span(NamedTuple):
-    """The bytes of a value in a JSON text: the offset of the first one, and the offset after the last one."""
+    """Where a value is in a JSON text: where it begins, and where it ends, which is after its last character or byte."""
 
     start: int
     end: int
 
 
-def locate(text: Text, pointer: Text) -> Span:
-    """Returns where the value that the pointer resolves to is in a JSON text, in bytes of its UTF-8.
-
-    The bytes from `start` to `end` are the value as it is written, without white space around it:
-
-        >>> text = '["\u00e9", 1.00]'.encode()
-        >>> span = locate(text, "/1")
-        >>> span, text[span.start:span.end]
-        (Span(start=7, end=11), b'1.00')
-
-    Of a repeated key the last member counts. If both the text and the pointer are at fault, the error is the pointer's.
-    The status of the error is NOT_LOCATED if the value is there but its bytes do not pass the check of the library, for
-    which no text is known.
-    """
+def _located(data: bytes, pointer: Text) -> Span:
+    """Returns where the value that the pointer resolves to is in a JSON text, in bytes."""
     start, end, error = _size(), _size(), _Error()
-    status = _locate(*_text(text), *_text(pointer), _at(start), _at(end), _at(error))
+    status = _locate(*_text(data), *_text(pointer), _at(start), _at(end), _at(error))
     if status:
         _fail(status, error)
     return Span(start.value, end.value)
 
 
+def locate(text: Text, pointer: Text) -> Span:
+    """Returns where the value that the pointer resolves to is in a JSON text: in characters of a `str`, in bytes of other texts.
+
+    `text[start:end]` is the value as it is written, without white space around it:
+
+        >>> text = '["\u00e9", 1.00]'
+        >>> span = locate(text, "/1")
+        >>> span, text[span.start:span.end]
+        (Span(start=6, end=10), '1.00')
+
+    Of a repeated key the last member counts. If both the text and the pointer are at fault, the error is the pointer's.
+    The status of the error is NOT_LOCATED if the value is there but its bytes do not pass the check of the library, for
+    which no text is known.
+    """
+    data = _bytes(text)
+    start, end = _located(data, pointer)
+    if isinstance(text, str) and not data.isascii():
+        before = len(data[:start].decode())
+        return Span(before, before + len(data[start:end].decode()))
+    return Span(start, end)
+
+
 def pointer_at(text: Text, offset: SupportsIndex) -> str:
-    """Returns the pointer of the innermost value of a JSON text that contains the byte at the offset.
+    """Returns the pointer of the innermost value of a JSON text that contains the character or byte at the offset.
 
         >>> pointer_at('{"sizes": [3.0, 5]}', 12), pointer_at('{"sizes": [3.0, 5]}', 14)
         ('/sizes/0', '/sizes')
 
-    The byte of a key, of a comma or of white space between two members is one of their object. The offset is in bytes of
-    the UTF-8 of the text. In a member whose key comes again, the result is the pointer of a value around it, which need not
-    be the smallest. The error is `NotFound` if no value is there: the byte is before or after the document, or is none of
-    the text.
+    A key, a comma and white space between two members are of their object. The offset counts characters of a `str`, and
+    bytes of other texts. In a member whose key comes again, the result is the pointer of a value around it, which need not
+    be the smallest. The error is `NotFound` if no value is there: the offset is before or after the document, or after the
+    text.
     """
-    data, at = _text(text), operator.index(offset)
+    data, at = _bytes(text), operator.index(offset)
+    absent = NotFound(f"no value is at offset {at}", status=NO_VALUE, offset=at)
     if not 0 <= at <= sys.maxsize:
-        raise NotFound(f"no value is at offset {at}", status=NO_VALUE, offset=at)
-    return _Buffer().fill(_pointer_at, *data, _size(at)).decode()
+        raise absent
+    if isinstance(text, str) and not data.isascii():
+        at_byte = len(data.decode()[:at].encode())
+    else:
+        at_byte = min(at, len(data))
+    try:
+        return _Buffer(min(len(data) + 1, _MOST_KEPT)).fill(_pointer_at, *_text(data), _size(at_byte)).decode()
+    except NotFound:
+        raise absent from None
 
 
 def _with_pointer(error: NotExact, text: bytes) -> NotExact:
@@ -377,57 +437,104 @@ def _with_pointer(error: NotExact, text: bytes) -> NotExact:
     return NotExact(message, **{**error.__dict__, "pointer": pointer})
 
 
+# The largest buffer that a document keeps.
+_MOST_KEPT = 1 << 16
+
+# How often this process was forked from one that had loaded the module, which is counted in the child.
+_forks = 0
+
+
+def _count_fork() -> None:
+    """Counts a fork."""
+    global _forks
+    _forks += 1
+
+
+if hasattr(os, "register_at_fork"):
+    os.register_at_fork(after_in_child=_count_fork)
+
+
 class Document:
     """A JSON document in the memory of the library.
 
-    It is made of JSON text, as `str` or `bytes`, and `Document.of` makes it of a Python value. If `exact`, a number that
-    loses digits is the error `NotExact`. A copy, and a document that was pickled, is made of the text again, so a document
-    that nests deeper than 127 levels has none.
+    It is made of JSON text, as `str` or bytes, and `Document.of` makes it of a Python value. A number that loses digits is
+    the error `NotExact`, unless `lossy`. A copy, and a document that was pickled, is made of the text again, so a document that
+    nests deeper than 127 levels has none.
     """
 
-    def __init__(self, text: Text, exact: bool = False) -> None:
-        self._lock = threading.Lock()
-        self._handle = _Handle()
-        self._at = _at(self._handle)
-        self._buffer = _Buffer()
-        self._size = _size()  # of the pointer that is passed
-        data, flags = _text(text), _EXACT_NUMBERS if exact else _ANY_NUMBERS
+    def __init__(self, text: Text, *, lossy: bool = False) -> None:
+        data = _bytes(text)
+        buffer = _Buffer(min(max(len(data), 512), _MOST_KEPT))
+        if not hasattr(self, "_at"):
+            self._handle, self._lock, self._forks = _Handle(), threading.Lock(), _forks
+            self._at = _at(self._handle)
+            self._size = _size()  # of the pointer that is passed
+        flags = _ANY_NUMBERS if lossy or not _MAY_LOSE.search(data) else _EXACT_NUMBERS
+        with self._held():
+            status = _parse(self._at, data, _size(len(data)), flags, buffer.at_error)
+            if not status:
+                self._buffer, self._length = buffer, len(data)  # the length is about that of the compact text
         try:
-            self._call(_parse, *data, flags)
+            if status:
+                _fail(status, buffer.error)
         except NotExact as error:
-            raise _with_pointer(error, data[0]) from None
+            raise _with_pointer(error, data) from None
 
     @classmethod
-    def of(cls, value: Any, exact: bool = False) -> "Document":
-        """Returns the document of a Python value. If `exact`, a number that loses digits is the error `NotExact`."""
-        return cls(_json(value), exact)
+    def of(cls, value: JSON, *, lossy: bool = False) -> "Document":
+        """Returns the document of a Python value. A number that loses digits is the error `NotExact`, unless `lossy`."""
+        return cls(_json(value, lossy), lossy=True)
+
+    def _held(self) -> threading.Lock:
+        """Returns the lock. Raises `RuntimeError` if no thread of this process can release it."""
+        if self._forks != _forks:
+            if self._lock.locked():
+                raise RuntimeError("another thread was in a call on this document when the process was forked")
+            self._forks = _forks
+        return self._lock
 
     def _call(self, call: Any, *arguments: Any) -> None:
         """Calls a function on the document that returns no text."""
-        with self._lock:
+        with self._held():
             status = call(self._at, *arguments, self._buffer.at_error)
             if status:
                 _fail(status, self._buffer.error)
 
+    def _whole(self, flags: ctypes.c_uint32) -> bytes:
+        """Returns the text of the whole document. Its buffer is kept only if it is short."""
+        with self._held():
+            is_long = self._length >= self._buffer.size.value
+            buffer = _Buffer(self._length + self._length // 8) if is_long else self._buffer
+            text = buffer.fill(_get, self._at, b"", _size(0), flags)
+            self._length = len(text)
+            return text
+
     def get(self, pointer: Text) -> bytes:
         """Returns the JSON text of the value that the pointer resolves to, as bytes."""
         pointer, size, buffer = _bytes(pointer), self._size, self._buffer
-        with self._lock:
+        if not pointer:
+            return self._whole(_COMPACT)
+        with self._held():
             size.value = len(pointer)
             if _get(self._at, pointer, size, _COMPACT, buffer.at_bytes, buffer.size, buffer.at_length, buffer.at_error):
-                return buffer.fill(_get, self._at, pointer, size, _COMPACT)
+                if buffer.error.status != NO_ROOM:
+                    _fail(buffer.error.status, buffer.error)
+                return _Buffer(buffer.length.value).fill(_get, self._at, pointer, size, _COMPACT)
             return bytes(buffer.bytes[:buffer.length.value])
 
     def resolve(self, pointer: Text) -> Any:
         """Returns the value that the pointer resolves to, as a Python value."""
         return _value(self.get(pointer))
 
-    def assign(self, pointer: Text, value: Any) -> None:
+    def assign(self, pointer: Text, value: JSON, *, lossy: bool = False) -> None:
         """Assigns a Python value at the pointer, and creates what is missing on the way.
 
-        A string, number, boolean or null on the way is replaced by a new object or array.
+        A string, number, boolean or null on the way is replaced by a new object or array. A number that loses digits is the
+        error `NotExact`, unless `lossy`.
         """
-        self._call(_assign, *_text(pointer), *_text(_json(value)))
+        text = _json(value, lossy)
+        self._call(_assign, *_text(pointer), *_text(text))
+        self._length += len(text)
 
     def delete(self, pointer: Text) -> bool:
         """Deletes the value that the pointer resolves to, and returns whether there was one. "" leaves None."""
@@ -435,17 +542,19 @@ class Document:
         self._call(_delete, *_text(pointer), _at(found))
         return bool(found.value)
 
-    def apply(self, patch: Any) -> None:
+    def apply(self, patch: Union["Patch", Text, Sequence[Mapping[str, JSON]]], *, lossy: bool = False) -> None:
         """Applies a patch, all of it or nothing: a `Patch`, JSON text, or a list of operations.
 
-        A `test` compares numbers by their values: 1 equals 1.0, and nothing is rounded. `remove` of "" leaves None.
+        A `test` compares numbers by their values: 1 equals 1.0, and nothing is rounded. `remove` of "" leaves None. A number
+        of the patch that loses digits is the error `NotExact`, unless `lossy`.
         """
-        self._call(_patch, *_text(patch.text if isinstance(patch, Patch) else Patch(patch).text))
+        text = (patch if isinstance(patch, Patch) else Patch(patch))._exact(lossy)
+        self._call(_patch, *_text(text))
+        self._length += len(text)
 
     def text(self, pretty: bool = False) -> str:
         """Returns the JSON text of the document. A pretty text has no newline at its end."""
-        with self._lock:
-            return self._buffer.fill(_get, self._at, b"", _size(0), _PRETTY if pretty else _COMPACT).decode()
+        return self._whole(_PRETTY if pretty else _COMPACT).decode()
 
     def value(self) -> Any:
         """Returns the document as a Python value."""
@@ -461,18 +570,35 @@ class Document:
 
     __hash__ = None  # type: ignore[assignment]
 
+    def _others(self) -> Dict[str, Any]:
+        """Returns the attributes that a subclass or a caller has set."""
+        return {name: value for name, value in self.__dict__.items() if name not in _OWN}
+
     def __copy__(self) -> "Document":
-        return type(self)(self.text())
+        return _remade(type(self), self.text(), self._others())
 
     def __deepcopy__(self, memo: Any) -> "Document":
-        return type(self)(self.text())
+        return _remade(type(self), self.text(), copy.deepcopy(self._others(), memo))
 
     def __reduce__(self) -> Tuple[Any, ...]:
-        return type(self), (self.text(),)
+        return _remade, (type(self), self.text(), self._others())
 
     def __del__(self, _free: Any = _free) -> None:
-        if hasattr(self, "_at"):
+        # After a fork a document that another thread was changing cannot be freed.
+        if hasattr(self, "_at") and not (self._forks != _forks and self._lock.locked()):
             _free(self._at)
+
+
+# The attributes of a document itself.
+_OWN = {"_at", "_buffer", "_forks", "_handle", "_length", "_lock", "_size"}
+
+
+def _remade(kind: Type[Document], text: str, others: Dict[str, Any]) -> Document:
+    """Returns a document of this class, with its text and other attributes, as a copy or after a pickle."""
+    document = kind.__new__(kind)
+    Document.__init__(document, text, lossy=True)
+    document.__dict__.update(others)
+    return document
 
 
 class Patch:
@@ -481,38 +607,53 @@ class Patch:
     It is false if it has no operations, and two patches are equal if their operations are the same JSON.
     """
 
-    def __init__(self, operations: Any) -> None:
-        self.text = _bytes(operations) if isinstance(operations, (str, bytes)) else _json(operations)
+    def __init__(self, operations: Union[Text, Sequence[Mapping[str, JSON]]]) -> None:
+        is_text = isinstance(operations, (str, bytes, bytearray, memoryview))
+        self.text = _bytes(operations) if is_text else _json(operations, lossy=True)  # type: ignore[arg-type]
+        self._suspect = _MAY_LOSE if is_text else _LONG_INTEGER
+
+    def _exact(self, lossy: bool) -> bytes:
+        """Returns the text. Raises `NotExact` if a number of it loses digits, unless `lossy`."""
+        return _exact(self.text, lossy, self._suspect)
 
     @property
     def operations(self) -> List[Any]:
-        """The operations, as Python values. The text is read anew each time."""
+        """The operations, as Python values, each number with all its digits. The text is read anew each time."""
         try:
-            found = json.loads(self.text)
+            found = json.loads(self.text.decode(), parse_constant=_no_constant)
         except RecursionError:
             raise TooDeep("the patch nests too deep for Python's json", status=TOO_DEEP) from None
         except ValueError as error:
-            raise JsonPatchError(f"the patch is not JSON: {error}", status=NOT_JSON) from None
+            raise NotJson(f"the patch is not JSON: {error}", status=NOT_JSON) from None
         if not isinstance(found, list):
             raise JsonPatchError("patch is not an array", status=NOT_PATCH)
         return found
 
-    def apply(self, value: Any) -> Any:
-        """Returns a Python value after the operations. The value itself is unchanged."""
-        document = Document.of(value)
-        document.apply(self)
+    def apply(self, value: JSON, *, lossy: bool = False) -> Any:
+        """Returns a Python value after the operations. The value itself is unchanged.
+
+        A number of either that loses digits is the error `NotExact`, unless `lossy`.
+        """
+        if isinstance(value, Document):
+            raise TypeError("a Python value is needed, not Document, which has a method apply")
+        document = Document.of(value, lossy=lossy)
+        document.apply(self, lossy=lossy)
         return document.value()
 
-    def apply_with_inverse(self, document: Document) -> "Patch":
+    def apply_with_inverse(self, document: Document, *, lossy: bool = False) -> "Patch":
         """Applies the patch to a `Document`, all of it or nothing, and returns the patch that takes it back.
 
-        The document is copied on the way, and twice if the text of that patch is longer than 512 bytes.
+        The document is copied on the way. A number of the patch that loses digits is the error `NotExact`, unless `lossy`.
         """
         if not isinstance(document, Document):
             raise TypeError(f"a Document is needed, not {type(document).__name__}")
-        text = _text(self.text)
-        with document._lock:
-            return Patch(_Buffer().fill(_patch_with_inverse, document._at, *text, _COMPACT))
+        text = self._exact(lossy)
+        with document._held():
+            # The values that are taken back are of the document. What else is in the text is about as long as the patch.
+            buffer = _Buffer(document._length + 2 * len(text) + 512)
+            inverse = Patch(buffer.fill(_patch_with_inverse, document._at, *_text(text), _COMPACT))
+            document._length += len(text)
+        return inverse
 
     def _normal(self) -> str:
         """Returns one text for all patches with the same operations."""
@@ -536,12 +677,21 @@ class Patch:
         return f"Patch({self.text.decode(errors='replace')!r})"
 
 
-def make_patch(old: Any, new: Any) -> Patch:
-    """Returns a patch that turns one value into another. Each is a `Document` or a Python value."""
-    old = old if isinstance(old, Document) else Document.of(old)
-    new = new if isinstance(new, Document) else Document.of(new)
+def _no_constant(name: str) -> NoReturn:
+    """Raises an error for a word that Python's json reads and that is not JSON, as NaN."""
+    raise ValueError(f"{name} is not JSON")
+
+
+def make_patch(old: Union[Document, JSON], new: Union[Document, JSON], *, lossy: bool = False) -> Patch:
+    """Returns a patch that turns one value into another. Each is a `Document` or a Python value.
+
+    A number of a Python value that loses digits is the error `NotExact`, unless `lossy`.
+    """
+    old = old if isinstance(old, Document) else Document.of(old, lossy=lossy)
+    new = new if isinstance(new, Document) else Document.of(new, lossy=lossy)
     if old is new:
         return Patch([])
     first, second = sorted((old, new), key=id)  # two threads take the two locks in one order
-    with first._lock, second._lock:
-        return Patch(_Buffer().fill(_diff, old._at, new._at, _COMPACT))
+    with first._held(), second._held():
+        buffer = _Buffer(old._length + new._length + 512)
+        return Patch(buffer.fill(_diff, old._at, new._at, _COMPACT))

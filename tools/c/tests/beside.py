@@ -24,7 +24,7 @@ import jsonptr
 DOCUMENTS = [
     {"foo": ["bar", "baz"], "": 0, "a/b": 1, "c%d": 2, "e^f": 3, "g|h": 4, "i\\j": 5, "k\"l": 6, " ": 7, "m~n": 8},
     {"sizes": [3, 5], "deep": {"x": [{"y": None}, True, -7, "gr\u00fc\u00df"]}, "0": {"1": 2}},
-    [[], {}, "text", 18446744073709551615, -9223372036854775808, False],
+    [[], {}, "text", 18446744073709551615, -9223372036854775808, False, 0.30000000000000004, 1e-07, 1e22, 5e-324],
     [], {}, 5, None, "x",
 ]
 TOKENS = ["foo", "", "a~1b", "m~0n", "sizes", "deep", "x", "0", "1", "2", "5", "-", "01", "y", "c%d", " "]
@@ -86,13 +86,14 @@ def is_same_object(call, value):
     return lambda: call(value, "/a") is value["a"]
 
 
-NOT_PATCHED, NOT_READ = Raised("JsonPatchError"), Raised("JsonPointerError")
+NOT_PATCHED, NOT_READ, LOSES = Raised("JsonPatchError"), Raised("NotJson"), Raised("NotExact")
 SHARED = {"a": [1]}
 DIFFERENCES = [
-    Difference("the members of objects in a result", "in the order of their keys", "as in the value", (
+    Difference("the members of objects after a patch, and in a `Document`", "in the order of their keys", "as in the value", (
         (*applied([], {"b": 1, "a": {"d": 1, "c": 2}}), {"a": {"c": 2, "d": 1}, "b": 1}, {"b": 1, "a": {"d": 1, "c": 2}}),
-        (*resolved([{"\U0001f600": 1, "\ufb01": 2, "z": 3}], "/0"), {"z": 3, "\ufb01": 2, "\U0001f600": 1},
-         {"\U0001f600": 1, "\ufb01": 2, "z": 3}))),
+        (lambda: jsonptr.Document.of([{"\U0001f600": 1, "\ufb01": 2, "z": 3}]).resolve("/0"),
+         lambda: jsonpointer.resolve_pointer([{"\U0001f600": 1, "\ufb01": 2, "z": 3}], "/0"),
+         {"z": 3, "\ufb01": 2, "\U0001f600": 1}, {"\U0001f600": 1, "\ufb01": 2, "z": 3}))),
     Difference("what resolving returns", "a copy", "the object in the value", (
         (is_same_object(jsonptr.resolve, SHARED), is_same_object(jsonpointer.resolve_pointer, SHARED), False, True),)),
     Difference("a value that nests deeper than 127", "an error", "works", (
@@ -105,15 +106,19 @@ DIFFERENCES = [
         (*applied([], OrderedDict(a=1)), {"a": 1}, OrderedDict(a=1)))),
     Difference("NaN, infinities and lone surrogates", "an error", "stay", (
         (*resolved([math.inf], "/0"), NOT_READ, math.inf), (*resolved([math.nan], "/0"), NOT_READ, math.nan),
-        (*resolved(["\ud800"], "/0"), NOT_READ, "\ud800"))),
+        (*resolved(["\ud800"], "/0"), Raised("JsonptrError"), "\ud800"))),
     Difference("`Decimal`, and other types that `json` does not write", "`TypeError`", "stay", (
         (*resolved([Decimal("1.10")], "/0"), Raised("TypeError"), Decimal("1.10")),)),
-    Difference("an integer above 2^64 - 1 or below -2^63", "becomes a float, or is an error if `exact`", "stays", (
-        (*resolved([2 ** 64], "/0"), float(2 ** 64), 2 ** 64), (*resolved([-2 ** 63 - 1], "/0"), float(-2 ** 63), -2 ** 63 - 1),
-        (lambda: jsonptr.Document.of([2 ** 64 + 1], exact=True), lambda: None, Raised("NotExact"), None))),
-    Difference("`make_patch` of 2^64 and 2^64 + 1", "no operation: both become one float", "an operation", (
+    Difference("an integer above 2^64 - 1 or below -2^63 in a patch, or in the value of one", "`NotExact`, or a float if `lossy`", "stays", (
+        (*applied([], [2 ** 70 + 1]), LOSES, [2 ** 70 + 1]), (*applied([], [-2 ** 63 - 1]), LOSES, [-2 ** 63 - 1]),
+        (*applied([{"op": "add", "path": "/-", "value": 2 ** 70}], []), LOSES, [2 ** 70]),
+        (*applied([{"op": "test", "path": "/0", "value": 2 ** 70}], [1]), LOSES, Raised("JsonPatchTestFailed")),
+        (lambda: jsonptr.Patch([]).apply([2 ** 70], lossy=True), lambda: jsonpatch.JsonPatch([]).apply([2 ** 70]),
+         [float(2 ** 70)], [2 ** 70]))),
+    Difference("`make_patch` of 2^64 and 2^64 + 1", "`NotExact`, or no operation if `lossy`: both become one float", "an operation", (
         (lambda: len(jsonptr.make_patch([2 ** 64], [2 ** 64 + 1])), lambda: len(list(jsonpatch.make_patch([2 ** 64], [2 ** 64 + 1]))),
-         0, 1),)),
+         LOSES, 1),
+        (lambda: len(jsonptr.make_patch([2 ** 64], [2 ** 64 + 1], lossy=True)), lambda: 1, 0, 1))),
     Difference("resolve `/-` in an array", "not found", "an object `EndOfList`", (
         (*resolved([1], "/-"), Raised("NotFound"), "EndOfList"),)),
     Difference("resolve `/01` in an array", "not found", "the element at 1, before version 3", (
@@ -209,9 +214,11 @@ def check_pointers():
                          outcome(lambda: json.loads(jsonptr.resolve_in_text(text, pointer)))):
                 if not same(ours, wanted):
                     report("resolve", value, pointer, "ours:", ours, "theirs:", theirs)
+            if repr(outcome(lambda: jsonptr.resolve(value, pointer))) != repr(wanted):
+                report("resolve in a value", value, pointer, "theirs:", theirs)
     for text in TEXTS:
         ours, theirs = outcome(lambda: jsonptr.tokens(text)), outcome(lambda: jsonpointer.JsonPointer(text))
-        if (ours, theirs) != (Raised("JsonPointerError"), Raised("JsonPointerException")):
+        if (ours, theirs) != (Raised("NotPointer"), Raised("JsonPointerException")):
             report("not a pointer", text, "ours:", ours, "theirs:", theirs)
     for pointer in POINTERS:
         if jsonptr.tokens(pointer) != jsonpointer.JsonPointer(pointer).parts:
@@ -398,7 +405,10 @@ def check_arguments():
     document = jsonptr.Document(Text('{"a": [7]}'))
     if document.resolve(Text("/a/0")) != 7 or document.resolve(b"/a/0") != 7:
         report("a text of a class of its own")
-    for wrong in (None, 5, ["/a"], bytearray(b"/a"), memoryview(b"/a")):
+    for text in (bytearray(b"/a/0"), memoryview(b"/a/0")):
+        if document.resolve(text) != 7 or jsonptr.tokens(text) != ["a", "0"]:
+            report("a text of another type of bytes")
+    for wrong in (None, 5, ["/a"]):
         for call in (document.get, document.resolve, document.delete, jsonptr.tokens, jsonptr.escape, jsonptr.Document,
                      lambda text: document.assign(text, 1), lambda text: jsonptr.resolve_in_text("{}", text)):
             if outcome(lambda: call(wrong)) != Raised("TypeError"):

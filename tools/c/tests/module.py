@@ -2,10 +2,14 @@
 import ast
 import concurrent.futures
 import copy
+import json
+import math
 import multiprocessing
 import os
 import pickle
+import random
 import re
+import struct
 import subprocess
 import sys
 import tempfile
@@ -46,14 +50,21 @@ def errors():
         caught(deep.assign, "/-" * 10_001, 1),
         caught(jsonptr.resolve, [float("nan")], ""),
         caught(jsonptr.resolve, {"a": "\ud800"}, ""),
-        caught(jsonptr.Document, '{"id": 12345678901234567890123}', True),
+        caught(jsonptr.Document, '{"id": 12345678901234567890123}'),
+        caught(deep.assign, "/7", 1),
     ]
+
+
+# The class of each of these errors.
+CLASSES = ("NotFound", "NotPointer", "JsonptrError", "JsonptrError", "NotJson", "JsonPatchError", "JsonPatchError", "TooDeep", "NotJson",
+           "JsonptrError", "NotExact", "NotAssigned")
 
 
 def check_errors():
     """Checks that each error survives a copy and a pickle, with all its fields."""
+    assert tuple(type(error).__name__ for error in errors()) == CLASSES and jsonptr.JsonPointerError is jsonptr.JsonptrError
     for error in errors():
-        assert isinstance(error, jsonptr.JsonPointerError), repr(error)
+        assert isinstance(error, jsonptr.JsonptrError), repr(error)
         for again in (copy.copy(error), copy.deepcopy(error), pickle.loads(pickle.dumps(error))):
             assert type(again) is type(error) and str(again) == str(error)
             assert all(getattr(again, name) == getattr(error, name) for name in FIELDS)
@@ -90,8 +101,93 @@ def check_documents():
     assert len(jsonptr.Patch([{"op": "remove", "path": ""}]).apply_with_inverse(document).text) > 10_000
     assert document.text() == "null"
     assert isinstance(caught(long.apply_with_inverse, {"a": 1}), TypeError)
-    for text in ("garbage", "{}"):
-        assert isinstance(caught(len, jsonptr.Patch(text)), jsonptr.JsonPatchError)
+    for text, kind, applied in (("garbage", "NotJson", "NotJson"), ("[NaN]", "NotJson", "NotJson"), ("{}", "JsonPatchError", "JsonPatchError"),
+                                ("[]".encode("utf-16"), "NotJson", "JsonptrError")):
+        assert type(caught(len, jsonptr.Patch(text))).__name__ == kind, text
+        assert type(caught(jsonptr.Document("[]").apply, text)).__name__ == applied, text
+    assert "has a method apply" in str(caught(patch.apply, document))
+
+
+class Named(jsonptr.Document):
+    """A document with a name, whose constructor takes other arguments."""
+
+    def __init__(self, name, number):
+        super().__init__(f"[{number}]")
+        self.name = name
+
+
+def check_copies():
+    """Checks copies and pickles of a subclass, and a document that is made anew."""
+    document = Named("a name", 1)
+    document.assign("/-", 2)
+    for again in (copy.copy(document), copy.deepcopy(document), pickle.loads(pickle.dumps(document))):
+        assert type(again) is Named and (again.name, again.text()) == ("a name", "[1,2]")
+        again.assign("/-", 3)
+    assert document.text() == "[1,2]"
+    made = jsonptr.Document("[1e-400]", lossy=True)
+    assert copy.copy(made).text() == pickle.loads(pickle.dumps(made)).text() == made.text()
+    handle = document._at
+    jsonptr.Document.__init__(document, "{}")
+    assert document._at is handle and document.text() == "{}"
+    caught(jsonptr.Document.__init__, document, "[")
+    assert document.text() == "{}"
+
+
+def check_buffers():
+    """Checks that results of any length are whole, that each is made once or twice, and that no long buffer is kept."""
+    calls = []
+    counted = jsonptr._get
+
+    def count(*arguments):
+        calls.append(arguments)
+        return counted(*arguments)
+
+    jsonptr._get = count
+    try:
+        for size in (0, 1, 500, 510, 511, 512, 513, 5_000, 65_000, 65_536, 70_000, 1_000_000):
+            text = '{"a":"' + "x" * size + '","b":[1]}'
+            document = jsonptr.Document(text)
+            for call, wanted, most in ((document.text, text, 1), (document.value, {"a": "x" * size, "b": [1]}, 1),
+                                       (lambda: document.resolve("/a"), "x" * size, 1 if size < 65_000 else 2)):
+                calls.clear()
+                assert call() == wanted and len(calls) <= most, (size, len(calls))
+            calls.clear()
+            assert isinstance(caught(document.get, "/c"), jsonptr.NotFound) and len(calls) == 1
+            assert document._buffer.size.value <= 65_536
+            document.assign("", 1)
+            assert document.text() == "1"
+    finally:
+        jsonptr._get = counted
+
+
+def check_fork():
+    """Checks that no call waits for ever after a fork: a call on a document that another thread held raises an error."""
+    if not hasattr(os, "fork"):
+        return
+    held, free = jsonptr.Document("[1]"), jsonptr.Document("[2]")
+    with held._lock:
+        child = os.fork()
+        if child == 0:
+            good = free.text() == "[2]"
+            for call in (held.text, lambda: held.assign("/0", 1), lambda: jsonptr.make_patch(held, free), lambda: held.get("/0")):
+                good = good and isinstance(caught(call), RuntimeError)
+            del held
+            os._exit(0 if good else 1)
+    deadline = time.monotonic() + 20
+    while (ended := os.waitpid(child, os.WNOHANG)) == (0, 0) and time.monotonic() < deadline:
+        time.sleep(0.01)
+    if ended == (0, 0):
+        os.kill(child, 9)
+    assert ended == (child, 0), ended
+    assert held.text() == "[1]"
+
+
+def check_later_library():
+    """Checks an error with numbers that this module does not know, as a later library may have."""
+    error = jsonptr._Error()
+    error.status, error.member, error.kind = 99, 8, 77
+    raised = caught(jsonptr._fail, 99, error)
+    assert type(raised) is jsonptr.JsonptrError and (raised.status, raised.member, raised.kind) == (99, None, 77)
 
 
 class Long(bytes):
@@ -124,45 +220,101 @@ def check_arguments():
     assert isinstance(caught(jsonptr.resolve, {1, 2}, ""), TypeError)
     circle = []
     circle.append(circle)
-    assert isinstance(caught(jsonptr.Document.of, circle), jsonptr.JsonPointerError)
+    assert isinstance(caught(jsonptr.Document.of, circle), jsonptr.NotJson)
+    for given in (bytearray(b"[1]"), memoryview(b"[1]")):
+        assert jsonptr.Document(given).text() == "[1]" and jsonptr.resolve_in_text(given, bytearray(b"/0")) == b"1"
+        assert jsonptr.locate(given, "/0") == (1, 2) and jsonptr.Patch(bytearray(b"[]")).apply([1]) == [1]
 
 
 def check_exact():
-    """Checks documents that are read with exact numbers."""
-    kept = "[0.1, 1.10, 1e5, -0, 18446744073709551615]"
-    assert jsonptr.Document(kept, exact=True) == jsonptr.Document(kept) and jsonptr.lost_number(kept) is None
+    """Checks that a text whose numbers lose digits is an error, unless the caller allows it."""
+    kept = "[0.1, 1.10, 1e5, -0, 18446744073709551615, 0.30000000000000004, 1234567890.12345, 9007199254740993]"
+    assert jsonptr.Document(kept, lossy=True) == jsonptr.Document(kept) and jsonptr.lost_number(kept) is None
     for text, pointer, message, offset in (
             ('{"id": 12345678901234567890123}', "/id", "the number at /id loses digits", 7),
             (b'[1, {"a/b": 1e-400}]', "/1/a~1b", "the number at /1/a~1b loses digits", 12),
             ("18446744073709551616", "", "the number loses digits", 0),
             ('{"a": 1e-400, "a": 1}', None, "the number at offset 6 loses digits", 6)):
-        error = caught(jsonptr.Document, text, True)
+        error = caught(jsonptr.Document, text)
         assert type(error) is jsonptr.NotExact and str(error) == message and error.pointer == pointer, repr(error)
         assert (error.status, error.offset) == (15, offset) and error.length > 5
         assert copy.copy(error).pointer == pickle.loads(pickle.dumps(error)).pointer == pointer
-        assert isinstance(jsonptr.Document(text), jsonptr.Document)
+        assert isinstance(jsonptr.Document(text, lossy=True), jsonptr.Document)
         if pointer is None:
             assert type(caught(jsonptr.lost_number, text)) is jsonptr.NotExact
         else:
             assert jsonptr.lost_number(text) == pointer
-    assert caught(jsonptr.Document.of, {"n": 2**70}, True).pointer == "/n"
-    assert jsonptr.Document.of([2**64 - 1, 0.1], exact=True).value() == [2**64 - 1, 0.1]
-    assert caught(jsonptr.Document, "[1e-400, x]", True).status == 6 and caught(jsonptr.lost_number, "[x]").status == 6
+    assert caught(jsonptr.Document, "[1e-400, x]").status == 6 and caught(jsonptr.lost_number, "[x]").status == 6
     long = "k" * 10_000
     assert jsonptr.lost_number(f'{{"{long}": 1e-400}}') == f"/{long}"
+    # What the module looks for in a text is in each number that loses digits.
+    chance = random.Random(7)
+    for _ in range(20_000):
+        digits = "".join(chance.choices("0123456789", k=chance.randrange(1, 19)))
+        point = chance.randrange(len(digits) + 1)
+        number = f"{int(digits[:point] or 0)}.{digits[point:]}" if digits[point:] else str(int(digits))
+        number = chance.choice(("", "-")) + number + chance.choice(("", "", "e5", "E-9", "e-330"))
+        assert jsonptr._MAY_LOSE.search(number.encode()) or jsonptr.lost_number(number) is None, number
+        value = chance.choice((chance.random(), chance.getrandbits(64), -chance.getrandbits(63), chance.uniform(-1e300, 1e300),
+                               struct.unpack("d", chance.randbytes(8))[0]))
+        assert not math.isfinite(value) or jsonptr.lost_number(json.dumps(value)) is None, value
+
+
+def check_doors():
+    """Checks that each call with a value that would lose digits is an error, unless the caller allows it."""
+    long, near = 12345678901234567890123, 1.2345678901234568e+22
+    document = jsonptr.Document("{}")
+    patch = jsonptr.Patch([{"op": "add", "path": "/id", "value": long}])
+    text = '[{"op": "add", "path": "/id", "value": 1e-400}]'
+    for call, pointer in (
+            (lambda **lossy: jsonptr.Document.of({"id": long}, **lossy).value(), "/id"),
+            (lambda **lossy: jsonptr.Document(f'{{"id": {long}}}', **lossy).value(), "/id"),
+            (lambda **lossy: document.assign("/id", [long], **lossy) or {"id": document.resolve("/id/0")}, "/0"),
+            (lambda **lossy: document.apply(patch, **lossy) or document.value(), "/0/value"),
+            (lambda **lossy: document.apply(patch.operations, **lossy) or document.value(), "/0/value"),
+            (lambda **lossy: document.apply(patch.text, **lossy) or document.value(), "/0/value"),
+            (lambda **lossy: patch.apply_with_inverse(document, **lossy) and document.value(), "/0/value"),
+            (lambda **lossy: patch.apply({}, **lossy), "/0/value"),
+            (lambda **lossy: jsonptr.Patch([]).apply({"id": long}, **lossy), "/id"),
+            (lambda **lossy: {"id": jsonptr.make_patch({"id": 1}, {"id": long}, **lossy).operations[0]["value"]}, "/id"),
+            (lambda **lossy: {"id": jsonptr.make_patch({"id": long}, jsonptr.Document("{}"), **lossy) and near}, "/id"),
+            (lambda **lossy: {"id": json.loads(jsonptr.resolve_in_text(f'{{"id": {long}}}', "/id", **lossy))}, "")):
+        document = jsonptr.Document("{}")
+        error = caught(call)
+        assert type(error) is jsonptr.NotExact and error.pointer == pointer and error.length > 0, (pointer, repr(error))
+        assert document.text() == "{}"
+        assert call(lossy=True) == {"id": near}, pointer
+    assert type(caught(document.apply, text)) is type(caught(document.apply, jsonptr.Patch(text))) is jsonptr.NotExact
+    assert jsonptr.Patch(text).apply({}, lossy=True) == {"id": 0.0}
+    # What is not lost is no error.
+    assert jsonptr.resolve({"b": long, "a": {"d": 1, "c": long}}, "/b") == long
+    assert repr(jsonptr.resolve({"b": {"d": 1, "c": long}}, "/b")) == repr({"d": 1, "c": long})
+    assert jsonptr.resolve_in_text(f'{{"id": {long}, "a": 1}}', "/a") == b"1"
+    assert jsonptr.Document.of([2**64 - 1, -2**63, 0.1]).value() == [2**64 - 1, -2**63, 0.1]
+    assert patch.operations[0]["value"] == long and pickle.loads(pickle.dumps(patch)) == patch
+    assert type(caught(pickle.loads(pickle.dumps(patch)).apply, {})) is jsonptr.NotExact
 
 
 def check_locations():
-    """Checks where values are, and the pointers at offsets, in bytes."""
+    """Checks where values are, and the pointers at offsets: in characters of a `str`, and in bytes."""
     text = '[1.0, {"~/": "\u00e9\\n"}]'
     data = text.encode()
     for pointer, start, end in (("", 0, 21), ("/0", 1, 4), ("/1", 6, 20), ("/1/~0~1", 13, 19)):
-        for given in (text, data, Long(data)):
+        for given in (data, Long(data)):
             span = jsonptr.locate(given, pointer)
             assert span == jsonptr.Span(start, end) == (start, end) and (span.start, span.end) == span, span
+        span = jsonptr.locate(text, pointer)
+        assert (text[:span.start].encode(), text[span.start:span.end].encode()) == (data[:start], data[start:end]), span
+        assert jsonptr.locate(Text(text), pointer) == span
     wanted = {0: "", 1: "/0", 3: "/0", 4: "", 6: "/1", 8: "/1", 12: "/1", 13: "/1/~0~1", 18: "/1/~0~1", 19: "/1", 20: ""}
-    assert all(jsonptr.pointer_at(text, at) == jsonptr.pointer_at(data, at) == wanted[at] for at in wanted)
-    assert jsonptr.pointer_at(text, True) == "/0"
+    assert all(jsonptr.pointer_at(data, at) == wanted[at] for at in wanted)
+    for at in range(len(text)):
+        assert jsonptr.pointer_at(text, at) == jsonptr.pointer_at(data, len(text[:at].encode())), at
+    assert jsonptr.pointer_at(text, True) == "/0" and text.index("n") == 16 and jsonptr.pointer_at(text, 16) == "/1/~0~1"
+    for offset in (20, 21, 2**64):
+        error = caught(jsonptr.pointer_at, text, offset)
+        assert (type(error), error.offset, str(error)) == (jsonptr.NotFound, offset, f"no value is at offset {offset}")
+    text = text.replace("\u00e9", "ee")
     long = "k" * 10_000
     assert jsonptr.pointer_at(f'{{"{long}": 1}}', 10_005) == f"/{long}"
     for offset in (21, -1, 2**63, 2**64, 10**30):
@@ -251,10 +403,10 @@ def check_version():
 
 
 def main():
-    for check in (check_errors, check_processes, check_documents, check_arguments, check_exact, check_locations, check_tokens,
-                  check_page, check_library, check_version):
+    for check in (check_errors, check_processes, check_documents, check_copies, check_buffers, check_fork, check_later_library,
+                  check_arguments, check_exact, check_doors, check_locations, check_tokens, check_page, check_library, check_version):
         check()
-    print("the module jsonptr: errors, processes, documents, arguments, exact numbers, locations, tokens, the page, library, version")
+    print("the module jsonptr: errors, documents, copies, buffers, forks, arguments, exact numbers, locations, tokens, the page, library")
 
 
 if __name__ == "__main__":

@@ -79,6 +79,8 @@ def main():
         text, owners = written.text, [None] * (len(written.text) + 1)
         for pointer, (start, end) in sorted(written.spans.items(), key=lambda span: span[1][0] - span[1][1]):
             assert jsonptr.locate(text, pointer) == (start, end), (text, pointer)
+            span = jsonptr.locate(text.decode(), pointer)
+            assert text.decode()[span.start:span.end].encode() == text[start:end] and len(text.decode()[:span.start].encode()) == start
             owners[start:end] = [pointer] * (end - start)
         for offset, owner in enumerate(owners):
             found = at(text, offset)
@@ -87,6 +89,8 @@ def main():
                 assert start <= offset < end, (text, offset, found)
             else:
                 assert found == owner, (text, offset, found)
+        for offset in range(len(text.decode())):
+            assert at(text.decode(), offset) == at(text, len(text.decode()[:offset].encode())), (text, offset)
         values, offsets = values + len(written.spans), offsets + len(owners)
     print(f"{values} values and {offsets} offsets of {TEXTS} texts")
 
