@@ -48,8 +48,9 @@
  *             unspecified. A result can contain zeros itself. `*length` is set to
  *             the length of the result without that zero, also by JSONPTR_NO_ROOM,
  *             where the buffer is shorter: so call with capacity 0 (NULL is allowed
- *             then) to learn a length, or call again with a buffer that long. Other
- *             errors leave `*length`.
+ *             then) to learn a length, or call again with a buffer that long. Such a
+ *             call makes the result all the same, and costs as much as one that
+ *             succeeds. Other errors leave `*length`.
  * Ownership   The caller owns texts, buffers and the struct of a handle. The
  *             library owns only the document in a handle, until
  *             jsonptr_document_free. It keeps no pointer to what it is passed,

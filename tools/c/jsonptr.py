@@ -55,10 +55,9 @@ import ctypes
 import json
 import operator
 import os
-import re
 import sys
 import threading
-from typing import (Any, Dict, Iterator, List, Mapping, NamedTuple, NoReturn, Optional, Pattern, Sequence, SupportsIndex, Tuple,
+from typing import (Any, Callable, Dict, Iterator, List, Mapping, NamedTuple, NoReturn, Optional, Sequence, SupportsIndex, Tuple,
                     Type, Union)
 
 __all__ = ["Document", "JsonPatchError", "JsonPointerError", "JsonptrError", "NotAssigned", "NotExact", "NotFound", "NotJson",
@@ -269,15 +268,31 @@ def _text(text: Text) -> Tuple[bytes, ctypes.c_size_t]:
     return text, _size(len(text))
 
 
-# What a JSON text has in which a number loses digits: an exponent, or 17 digits and points in a row. Two decimals of 15 digits
-# never have one double, and an integer of 16 digits is one of 64 bits. Of the numbers that Python writes, no float loses any.
-_MAY_LOSE = re.compile(rb"[0-9.]{17}|[0-9.][eE]")
-_LONG_INTEGER = re.compile(rb"[0-9]{19}")
+def _kinds(digits: str) -> bytes:
+    """Returns a table for `bytes.translate`: these bytes become "0", the letter of an exponent "e", and others a space."""
+    return bytes(48 if chr(byte) in digits else 101 if byte in b"eE" else 32 for byte in range(256))
 
 
-def _exact(text: bytes, lossy: bool, suspect: Pattern[bytes] = _MAY_LOSE) -> bytes:
+_DIGITS, _DIGITS_AND_POINTS = _kinds("0123456789"), _kinds("0123456789.")
+
+
+def _may_lose(text: bytes) -> bool:
+    """Returns whether a number of a JSON text can lose digits: one with an exponent, or with 17 digits and points in a row.
+
+    Two decimals of 15 digits never have one double, and an integer of 16 digits is one of 64 bits.
+    """
+    kinds = text.translate(_DIGITS_AND_POINTS)
+    return b"0" * 17 in kinds or b"0e" in kinds
+
+
+def _may_be_long(text: bytes) -> bool:
+    """Returns whether a number of a JSON text that Python wrote can lose digits: an integer of 19 digits, and never a float."""
+    return b"0" * 19 in text.translate(_DIGITS)
+
+
+def _exact(text: bytes, lossy: bool, is_suspect: Callable[[bytes], bool] = _may_lose) -> bytes:
     """Returns a JSON text. Raises `NotExact` if a number of it loses digits, unless `lossy`."""
-    if not lossy and suspect.search(text):
+    if not lossy and is_suspect(text):
         Document(text)
     return text
 
@@ -292,7 +307,7 @@ def _json(value: JSON, lossy: bool) -> bytes:
         raise TooDeep("the value nests too deep for Python's json", status=TOO_DEEP) from None
     except ValueError as error:
         raise NotJson(f"the value is not JSON: {error}", status=NOT_JSON) from None
-    return _exact(text, lossy, _LONG_INTEGER)
+    return _exact(text, lossy, _may_be_long)
 
 
 def _value(text: bytes) -> Any:
@@ -347,7 +362,7 @@ def resolve_in_text(text: Text, pointer: Text, *, lossy: bool = False) -> bytes:
     and the pointer are at fault, the error is the pointer's.
     """
     data = _bytes(text)
-    if not lossy and _MAY_LOSE.search(data):
+    if not lossy and _may_lose(data):
         start, end = _located(data, pointer)
         _exact(data[start:end], lossy)
     return _Buffer(len(data) + 32).fill(_in_text, *_text(data), *_text(pointer), _COMPACT)
@@ -469,7 +484,7 @@ class Document:
             self._handle, self._lock, self._forks = _Handle(), threading.Lock(), _forks
             self._at = _at(self._handle)
             self._size = _size()  # of the pointer that is passed
-        flags = _ANY_NUMBERS if lossy or not _MAY_LOSE.search(data) else _EXACT_NUMBERS
+        flags = _ANY_NUMBERS if lossy or not _may_lose(data) else _EXACT_NUMBERS
         with self._held():
             status = _parse(self._at, data, _size(len(data)), flags, buffer.at_error)
             if not status:
@@ -610,11 +625,11 @@ class Patch:
     def __init__(self, operations: Union[Text, Sequence[Mapping[str, JSON]]]) -> None:
         is_text = isinstance(operations, (str, bytes, bytearray, memoryview))
         self.text = _bytes(operations) if is_text else _json(operations, lossy=True)  # type: ignore[arg-type]
-        self._suspect = _MAY_LOSE if is_text else _LONG_INTEGER
+        self._is_suspect = _may_lose if is_text else _may_be_long
 
     def _exact(self, lossy: bool) -> bytes:
         """Returns the text. Raises `NotExact` if a number of it loses digits, unless `lossy`."""
-        return _exact(self.text, lossy, self._suspect)
+        return _exact(self.text, lossy, self._is_suspect)
 
     @property
     def operations(self) -> List[Any]:

@@ -103,7 +103,7 @@ def parts_in_python(built, text):
     at, size, at_error = ctypes.byref(handle), ctypes.c_size_t(len(bytes_of)), ctypes.byref(error)
 
     def parse_and_free():
-        jsonptr._parse(at, bytes_of, size, at_error)
+        jsonptr._parse(at, bytes_of, size, jsonptr._ANY_NUMBERS, at_error)
         jsonptr._free(at)
 
     rows = [
@@ -142,7 +142,7 @@ def parts_of_a_call(built, text):
         ("copying the text of the value out of the buffer", lambda: buffer.bytes[:buffer.length.value]),
         ("its value", lambda: jsonptr._scan(b"3".decode(), 0)[0]),
         ("beside it: the call, if `ctypes` converts to declared types", lambda: declared(
-            read._at, pointer, len(pointer), 0, address, 512, buffer.at_length, buffer.at_error)),
+            read._at, pointer, len(pointer), 0, address, len(buffer.bytes), buffer.at_length, buffer.at_error)),
     ]
     print("\n| resolve a member, in Python | time |\n|---|---|")
     for name, call in rows:
