@@ -133,6 +133,7 @@ _error_message, _version = _function("error_message"), _function("version", ctyp
 _size, _at = ctypes.c_size_t, ctypes.byref
 _COMPACT, _PRETTY = ctypes.c_uint32(0), ctypes.c_uint32(1)
 _ANY_NUMBERS, _EXACT_NUMBERS = ctypes.c_uint32(0), ctypes.c_uint32(2)
+_encode = json.JSONEncoder(separators=(",", ":"), ensure_ascii=False, allow_nan=False).encode
 _scan: Any = getattr(json.JSONDecoder(), "scan_once")  # reads a text that begins with its value, as those of the library do
 
 
@@ -300,7 +301,7 @@ def _exact(text: bytes, lossy: bool, is_suspect: Callable[[bytes], bool] = _may_
 def _json(value: JSON, lossy: bool) -> bytes:
     """Returns the JSON text of a value. Raises `NotExact` if a number of it loses digits, unless `lossy`."""
     try:
-        text = _bytes(json.dumps(value, separators=(",", ":"), ensure_ascii=False, allow_nan=False))
+        text = _bytes(_encode(value))
     except JsonptrError:
         raise
     except RecursionError:
