@@ -219,6 +219,7 @@ def check_version():
     if not number:
         return expect(False, "crates/jsonptr/VERSION", f"{version} is no version")
     major, minor, patch = number.groups()
+    interface = f"{major}.{minor}" if major == "0" else major
     last = f"Version {version}, of {date}" if version == release else f"Version {version}, not released: the last release is {release}, of {date}"
     places = (
         ("README.md", last),
@@ -229,6 +230,9 @@ def check_version():
         ("tools/c/jsonptr.h", f"#define JSONPTR_VERSION_MAJOR {major}\n#define JSONPTR_VERSION_MINOR {minor}\n#define JSONPTR_VERSION_PATCH {patch}\n"),
         ("tools/c/jsonptr.h", f'#define JSONPTR_VERSION "{version}"\n'),
         ("tools/c/jsonptr.py", f'__version__ = "{version}"\n'),
+        ("docs/C.md", f"`lib/libjsonptr.so.{interface}`"),
+        ("docs/C.md", f"or else `libjsonptr.so.{interface}`"),
+        ("docs/C.md", f"(`JSONPTR_{interface}`)"),
     )
     for name, text in places:
         expect(os.path.exists(f"{TOP}/{name}") and text in read(name), name, f"'{text}' is missing")
