@@ -192,8 +192,8 @@ jsonptr_status jsonptr_document_get(const jsonptr_document *document, const char
     return ended(status, out, capacity, size);
 }
 
-jsonptr_status jsonptr_document_string(const jsonptr_document *document, const char *pointer, size_t pointer_length, char *out,
-                                       size_t capacity, size_t *length, jsonptr_error *error) {
+jsonptr_status jsonptr_document_string(const jsonptr_document *document, const char *pointer, size_t pointer_length,
+                                       char *out, size_t capacity, size_t *length, jsonptr_error *error) {
     unwanted none;
     if (document == NULL || !is_slice(pointer, pointer_length) || !is_slice(out, capacity)) {
         return bad_argument(error);
@@ -257,8 +257,8 @@ jsonptr_status jsonptr_document_patch_with_inverse(jsonptr_document *document, c
     return ended(status, out, capacity, size);
 }
 
-jsonptr_status jsonptr_document_diff(const jsonptr_document *from, const jsonptr_document *to, uint32_t flags, char *out,
-                                     size_t capacity, size_t *length, jsonptr_error *error) {
+jsonptr_status jsonptr_document_diff(const jsonptr_document *from, const jsonptr_document *to, uint32_t flags,
+                                     char *out, size_t capacity, size_t *length, jsonptr_error *error) {
     unwanted none;
     if (from == NULL || to == NULL || from == to || !is_known(flags) || !is_slice(out, capacity)) {
         return bad_argument(error);

@@ -170,7 +170,7 @@ typedef uint32_t jsonptr_status;
 #define JSONPTR_OK            0u  /* the call succeeded */
 #define JSONPTR_NO_MEMORY     1u  /* malloc or realloc returned NULL */
 #define JSONPTR_NO_ROOM       2u  /* the buffer is shorter than the result */
-#define JSONPTR_BAD_ARGUMENT  3u  /* NULL, a length above PTRDIFF_MAX, an unknown flag, one document passed twice, or a pointer that is longer than its buffer */
+#define JSONPTR_BAD_ARGUMENT  3u  /* NULL, a length that cannot be, an unknown flag, or one document passed twice */
 #define JSONPTR_NO_DOCUMENT   4u  /* the handle holds no document */
 #define JSONPTR_NOT_UTF8      5u  /* a text is not UTF-8 */
 #define JSONPTR_NOT_JSON      6u  /* a text is not a JSON text */
