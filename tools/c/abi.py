@@ -148,11 +148,19 @@ def resized(old, new):
             yield f"`{name}`", f"from {sizes[0][name]} to {sizes[1][name]}"
 
 
+def renumbered(old, new):
+    """Yields the numbers of the last release that are others now. A number never changes, but its name may go."""
+    numbers = [dict(re.findall(r"^define (\w+): (\d+)$", "\n".join(rows), re.M)) for rows in (old, new)]
+    for name, number in numbers[0].items():
+        if numbers[1].get(name, number) != number:
+            yield f"{name} was {number} in the last release, and a number never changes"
+
+
 def check_news(version, last, new):
     """Returns the errors of the changelog, on what is no longer as in the last release."""
     old, text = read(listed(last)).splitlines(), read(f"{TOP}/CHANGELOG.md")
     news = text.partition("\n## [Unreleased]")[2].partition("\n## [")[0]
-    errors = [f"CHANGELOG's Unreleased does not name `{name}`" for name in untold(old, new, news)]
+    errors = [*renumbered(old, new), *(f"CHANGELOG's Unreleased does not name `{name}`" for name in untold(old, new, news))]
     for name, sizes in resized(old, new):
         if not re.search(rf"{name}(?: grew)? {sizes}\b", news):
             errors.append(f"CHANGELOG's Unreleased does not say that {name} grew {sizes} bytes")
