@@ -597,6 +597,8 @@ class Document:
         return _remade(type(self), self.text(), copy.deepcopy(self._others(), memo))
 
     def __reduce__(self) -> Tuple[Any, ...]:
+        if type(self) is Document and not self._others():
+            return Document, (self.text(),)  # which each version of the module reads
         return _remade, (type(self), self.text(), self._others())
 
     def __del__(self, _free: Any = _free) -> None:
@@ -623,14 +625,17 @@ class Patch:
     It is false if it has no operations, and two patches are equal if their operations are the same JSON.
     """
 
+    _is_of_python = False  # whether Python wrote the text, so that its floats lose no digits
+
     def __init__(self, operations: Union[Text, Sequence[Mapping[str, JSON]]]) -> None:
         is_text = isinstance(operations, (str, bytes, bytearray, memoryview))
         self.text = _bytes(operations) if is_text else _json(operations, lossy=True)  # type: ignore[arg-type]
-        self._is_suspect = _may_lose if is_text else _may_be_long
+        if not is_text:
+            self._is_of_python = True
 
     def _exact(self, lossy: bool) -> bytes:
         """Returns the text. Raises `NotExact` if a number of it loses digits, unless `lossy`."""
-        return _exact(self.text, lossy, self._is_suspect)
+        return _exact(self.text, lossy, _may_be_long if self._is_of_python else _may_lose)
 
     @property
     def operations(self) -> List[Any]:

@@ -124,6 +124,11 @@ def check_copies():
         assert type(again) is Named and (again.name, again.text()) == ("a name", "[1,2]")
         again.assign("/-", 3)
     assert document.text() == "[1,2]"
+    # A pickle of the module's own classes has no name that version 0.2 did not have, and one of 0.2 is read.
+    assert b"_remade" not in pickle.dumps(jsonptr.Document("[1]")) and pickle.dumps(jsonptr.Patch([])).count(b"jsonptr") == 1
+    older = jsonptr.Patch.__new__(jsonptr.Patch)
+    older.__dict__["text"] = b'[{"op": "add", "path": "", "value": 1e-400}]'
+    assert type(caught(older.apply, 1)) is jsonptr.NotExact and older.apply(1, lossy=True) == 0.0
     made = jsonptr.Document("[1e-400]", lossy=True)
     assert copy.copy(made).text() == pickle.loads(pickle.dumps(made)).text() == made.text()
     handle = document._at
