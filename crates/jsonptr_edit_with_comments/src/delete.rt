@@ -19,9 +19,9 @@ use std::convert::Infallible;
 /// [`delete_in_place`] does in a text without comments. Returns `None` if it resolves to nothing.
 ///
 /// The comments inside the child go with it, and those after it on its line, also after its comma. Those
-/// on lines above it stay. Where it shares a line with a child that follows, the comments between that
-/// one and the comma stay. If the last child is removed, the one before it keeps its comma only if the
-/// list has a trailing comma.
+/// on lines above it stay, and so do those between its line and a comma that is on a later line. Where it
+/// shares a line with a child that follows, the comments between that one and the comma stay. If the last
+/// child is removed, the one before it keeps its comma only if the list has a trailing comma.
 ///
 /// # Errors
 ///

@@ -91,7 +91,7 @@ fn removed(
     Ok(Some(Change {
         comma: removal.comma,
         replaced: removal.span,
-        piece: String::new(alloc),
+        piece: String::from_str(alloc, slice(texts.text, removal.kept.from, removal.kept.to))?,
         child: *child,
         key: if is_object { Some(key) } else { None },
     }))

@@ -34,6 +34,8 @@ pub struct Removed {
     pub comma: Comma,
     /// The child, and what goes with it.
     pub span: Span,
+    /// What stays of that: comments between the line of the child and a comma after it.
+    pub kept: Span,
 }
 
 /// Returns what is removed with the child at the position, or `None` if that is not clear.
@@ -66,8 +68,18 @@ pub fn removal(texts: Texts<'_>, family: &Family, position: usize) -> Option<Rem
 
 /// Returns the removal of the span, without a comma elsewhere.
 fn alone(span: Span) -> Option<Removed> {
-    let comma = Comma::Same;
-    Some(Removed { comma, span })
+    Some(Removed::whole(Comma::Same, span))
+}
+
+impl Removed {
+    /// Returns the removal of the whole span, and of the comma.
+    fn whole(comma: Comma, span: Span) -> Removed {
+        let kept = Span {
+            from: span.to,
+            to: span.to,
+        };
+        Removed { comma, span, kept }
+    }
 }
 
 impl<'t> Around<'t> {
@@ -82,9 +94,15 @@ impl<'t> Around<'t> {
         if self.is_first && self.is_last && self.owns_all() {
             return alone(self.all);
         }
+        if let Some(comma) = self.later_comma() {
+            return self.before_later_comma(comma);
+        }
         if self.after.ends_line {
-            if let Some(start) = self.line_start() {
+            if let Some(start) = self.line_start(self.child.from) {
                 return self.line(start);
+            }
+            if let Some(comma) = self.last_comma() {
+                return alone(self.line_from(self.comma_start(comma)));
             }
         }
         if self.is_last {
@@ -92,6 +110,102 @@ impl<'t> Around<'t> {
         } else {
             self.not_last()
         }
+    }
+
+    /// Returns the offset of the comma after the child, if the child is not the last one and the comma is
+    /// on a later line.
+    fn later_comma(&self) -> Option<usize> {
+        let comma = self.after.comma?;
+        if self.is_last || comma < self.after.tail {
+            None
+        } else {
+            Some(comma)
+        }
+    }
+
+    /// Returns the removal of a child whose comma is on a later line. The comma before the child goes
+    /// instead. If there is none, what is between the line of the child and its comma stays, if that has
+    /// comments.
+    fn before_later_comma(&self, comma: usize) -> Option<Removed> {
+        if self.is_first {
+            return self.first_before(comma);
+        }
+        if let Some(before) = self.comma_beside() {
+            return alone(self.line_from(self.comma_start(before)));
+        }
+        let taken = Comma::Taken(self.before.comma?);
+        let start = self.line_start(self.child.from);
+        let from = start.unwrap_or(self.space_start());
+        Some(Removed::whole(taken, self.line_from(from)))
+    }
+
+    /// Returns the removal of the first child, and of the comma at the offset, which is on a later line.
+    fn first_before(&self, comma: usize) -> Option<Removed> {
+        let span = Span {
+            from: self.child.from,
+            to: self.next_after(comma),
+        };
+        let kept = Span {
+            from: self.line_end(),
+            to: comma,
+        };
+        if slice(self.text, kept.from, kept.to).trim().is_empty() {
+            return alone(span);
+        }
+        let start = self.line_start(self.child.from);
+        let span = Span {
+            from: start.unwrap_or(self.space_start()),
+            to: span.to,
+        };
+        let comma = Comma::Same;
+        Some(Removed { comma, span, kept })
+    }
+
+    /// Returns the offset of the comma before the child, if only white space is between them.
+    fn comma_beside(&self) -> Option<usize> {
+        let comma = self.before.comma?;
+        let between = slice(self.text, comma.saturating_add(1), self.child.from);
+        if between.trim().is_empty() {
+            Some(comma)
+        } else {
+            None
+        }
+    }
+
+    /// Returns the offset of the comma that begins the line of the last child, if the list has no
+    /// trailing comma.
+    fn last_comma(&self) -> Option<usize> {
+        if !self.is_last || self.after.comma.is_some() {
+            return None;
+        }
+        let comma = self.comma_beside()?;
+        self.line_start(comma)?;
+        Some(comma)
+    }
+
+    /// Returns the offset of the line break before the comma, if only white space is between them, and else
+    /// that of the white space before the comma.
+    fn comma_start(&self, comma: usize) -> usize {
+        match self.line_start(comma) {
+            Some(start) => start,
+            None => comma.saturating_sub(self.space(comma).len()),
+        }
+    }
+
+    /// Returns the span from the offset to the end of the line of the child.
+    fn line_from(&self, from: usize) -> Span {
+        Span {
+            from,
+            to: self.line_end(),
+        }
+    }
+
+    /// Returns the offset of what follows the comma after the child and white space.
+    fn next_after(&self, comma: usize) -> usize {
+        let after = comma.saturating_add(1);
+        let rest = slice(self.text, after, self.all.to);
+        let space = rest.len().saturating_sub(rest.trim_start().len());
+        after.saturating_add(space)
     }
 
     /// Returns whether each comment around the child is on its line, after it.
@@ -105,29 +219,18 @@ impl<'t> Around<'t> {
 
     /// Returns the removal of the line of the child, which begins at the offset.
     fn line(&self, start: usize) -> Option<Removed> {
-        let span = Span {
-            from: start,
-            to: self.line_end(),
-        };
-        if self.is_last {
-            if self.is_first || self.after.comma.is_some() {
-                return alone(span);
-            }
-            let comma = Comma::Taken(self.before.comma?);
-            return Some(Removed { comma, span });
+        let span = self.line_from(start);
+        if !self.is_last || self.is_first || self.after.comma.is_some() {
+            return alone(span);
         }
-        if self.after.comma? < self.after.tail {
-            alone(span)
-        } else {
-            None
-        }
+        Some(Removed::whole(Comma::Taken(self.before.comma?), span))
     }
 
     /// Returns the removal of the last child, which shares a line with others.
     fn last(&self) -> Option<Removed> {
         let to = self.after.tail;
+        let from = self.space_start();
         if self.is_first || self.after.comma.is_some() {
-            let from = self.space_start();
             return alone(Span { from, to });
         }
         if self.before.comments_end.is_none() {
@@ -135,43 +238,27 @@ impl<'t> Around<'t> {
             return alone(Span { from, to });
         }
         let comma = Comma::Taken(self.before.comma?);
-        let from = self.space_start();
-        Some(Removed {
-            comma,
-            span: Span { from, to },
-        })
+        Some(Removed::whole(comma, Span { from, to }))
     }
 
     /// Returns the removal of a child that is not the last one, and shares a line with others.
     fn not_last(&self) -> Option<Removed> {
         let comma = self.after.comma?;
-        if comma >= self.after.tail {
-            return None;
-        }
         if self.after.ends_line {
-            let from = self.space_start();
-            let to = self.line_end();
-            return alone(Span { from, to });
+            return alone(self.line_from(self.space_start()));
         }
-        let after = comma.saturating_add(1);
-        let rest = slice(self.text, after, self.all.to);
-        let space = rest.len().saturating_sub(rest.trim_start().len());
         alone(Span {
             from: self.child.from,
-            to: after.saturating_add(space),
+            to: self.next_after(comma),
         })
     }
 
-    /// Returns the offset of the line break before the child, if only white space is between them.
-    fn line_start(&self) -> Option<usize> {
-        let space = self.space();
+    /// Returns the offset of the line break before the offset, if only white space is between them.
+    fn line_start(&self, offset: usize) -> Option<usize> {
+        let space = self.space(offset);
         let at = space.rfind('\n')?;
         let is_pair = slice(space, 0, at).ends_with('\r');
-        let start = self
-            .child
-            .from
-            .saturating_sub(space.len())
-            .saturating_add(at);
+        let start = offset.saturating_sub(space.len()).saturating_add(at);
         Some(if is_pair {
             start.saturating_sub(1)
         } else {
@@ -186,15 +273,15 @@ impl<'t> Around<'t> {
         self.after.tail.saturating_add(space)
     }
 
-    /// Returns the white space before the child.
-    fn space(&self) -> &'t str {
-        let before = slice(self.text, self.all.from, self.child.from);
+    /// Returns the white space before the offset, which is not after the child.
+    fn space(&self, offset: usize) -> &'t str {
+        let before = slice(self.text, self.all.from, offset);
         slice(before, before.trim_end().len(), before.len())
     }
 
     /// Returns the offset of the white space before the child, or of the child if that has a line break.
     fn space_start(&self) -> usize {
-        let space = self.space();
+        let space = self.space(self.child.from);
         if space.contains('\n') {
             self.child.from
         } else {
