@@ -276,19 +276,9 @@ fn look(rt: &HostRuntime, target: &EditedFile) -> io::Result<()> {
 
 /// Returns whether the metadata are those of one file that was not changed in between.
 fn is_same(now: &Metadata, seen: &Metadata) -> bool {
-    (
-        now.dev(),
-        now.ino(),
-        now.size(),
-        now.mtime(),
-        now.mtime_nsec(),
-    ) == (
-        seen.dev(),
-        seen.ino(),
-        seen.size(),
-        seen.mtime(),
-        seen.mtime_nsec(),
-    )
+    (now.dev(), now.ino(), now.size()) == (seen.dev(), seen.ino(), seen.size())
+        && (now.mtime(), now.mtime_nsec()) == (seen.mtime(), seen.mtime_nsec())
+        && (now.ctime(), now.ctime_nsec()) == (seen.ctime(), seen.ctime_nsec())
 }
 
 /// Syncs the folder of the file, so that the new name is on the device.
