@@ -61,9 +61,10 @@ fn show_usage(rt: &HostRuntime, error: &Error) -> Result<u8, ProgramError> {
     if error.kind() == ErrorKind::OutOfMemory {
         return Err(ProgramError::Memory);
     }
-    let text = error.to_string(rt.alloc())?;
+    let alloc = rt.alloc();
+    let text = error.to_string(alloc)?;
     if error.use_stderr() {
-        return Err(ProgramError::Other(USAGE, text));
+        return Err(ProgramError::of_usage(alloc, text.as_str()));
     }
     print_text(rt, text.as_str())?;
     Ok(0)

@@ -1,5 +1,7 @@
 //! The errors of the program, as they are printed.
 
+use crate::report::drawn;
+use crate::shown::{printable, shown};
 use crate::syntax::{explain, unclosed_comment};
 use jptr_tasks::exit_status::{BAD_INPUT, MEMORY, NOT_APPLIED};
 use jptr_tasks::task_error::TaskError;
@@ -156,21 +158,6 @@ fn line(alloc: Global, name: &str, message: &str) -> Result<String, AllocError> 
     format!(in alloc; "jptr: {name}: {message}\n")
 }
 
-/// Returns the text as it is shown: each control character in it is escaped.
-pub fn shown(alloc: Global, text: &str) -> Result<String, AllocError> {
-    let mut shown = String::new(alloc);
-    for c in text.chars() {
-        if c.is_control() {
-            for escaped in c.escape_default() {
-                shown.push(escaped)?;
-            }
-        } else {
-            shown.push(c)?;
-        }
-    }
-    Ok(shown)
-}
-
 impl From<AllocError> for ProgramError {
     /// Returns the error of a failed allocation.
     fn from(_error: AllocError) -> ProgramError {
@@ -226,8 +213,8 @@ fn drawing(alloc: Global, pointer: &str, error: TaskError) -> Result<Option<Stri
         return Ok(None);
     };
     match error {
-        TaskError::Resolve(error) => Ok(Some(error.into_report(subject).render(alloc)?)),
-        TaskError::Assign(error) => Ok(Some(error.into_report(subject).render(alloc)?)),
+        TaskError::Resolve(error) => Ok(Some(drawn(alloc, &error.into_report(subject))?)),
+        TaskError::Assign(error) => Ok(Some(drawn(alloc, &error.into_report(subject))?)),
         _ => Ok(None),
     }
 }
@@ -263,7 +250,7 @@ fn pointer_text(alloc: Global, pointer: &str, error: ParseError) -> Result<Strin
 fn token_text(alloc: Global, token: &str, error: EncodingError) -> Result<String, AllocError> {
     let text = format!(in alloc; "jptr: TOKEN: {error}\n")?;
     let report = error.into_report(String::from_str(alloc, token)?);
-    append_lines(text, report.render(alloc)?.as_str())
+    append_lines(text, drawn(alloc, &report)?.as_str())
 }
 
 /// Returns the text of the error of bytes that are not JSON, with its line and column.

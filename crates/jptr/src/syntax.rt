@@ -1,7 +1,7 @@
 //! Why a text is not JSON: what is found, and what may be there instead.
 
 use crate::position::Position;
-use crate::program_error::shown;
+use crate::shown::shown;
 use jsonptr_value::MAX_DEPTH;
 use std::alloc::{AllocError, Global};
 

@@ -10,6 +10,7 @@ use crate::lost_comment::not_in_place;
 use crate::operands::file_of;
 use crate::output::{Output, print_text};
 use crate::program_error::ProgramError;
+use crate::shown::shown;
 use crate::source::{FileFormat, Source};
 use crate::style::{OutputStyle, indented, style_of};
 use clap::ArgMatches;
@@ -287,7 +288,8 @@ fn line_task<'a>(
     layout: Layout,
 ) -> Result<LineTask<'a>, ProgramError> {
     let fallback = fallback_of(alloc, &task, layout)?;
-    let name = format!(in alloc; "jptr: {}", name_of(file_of(matches)))?;
+    let file = shown(alloc, name_of(file_of(matches)))?;
+    let name = format!(in alloc; "jptr: {file}")?;
     Ok(LineTask {
         task,
         layout,

@@ -3,7 +3,8 @@
 use crate::digits::{check_text, is_lossy};
 use crate::input::{is_standard, name_of, read_input, value_in};
 use crate::operands::file_of;
-use crate::program_error::{ProgramError, shown};
+use crate::program_error::ProgramError;
+use crate::shown::shown;
 use crate::source::past_mark;
 use clap::ArgMatches;
 use jptr_tasks::exit_status::{BAD_INPUT, USAGE};
