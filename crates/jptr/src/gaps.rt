@@ -191,7 +191,7 @@ fn check_size(
         return Ok(());
     }
     let message = format!(in alloc; "line {number}: more than {MOST} elements are missing");
-    Err(ProgramError::of_message(alloc, NOT_APPLIED, name, message))
+    Err(ProgramError::of_message(alloc, NOT_MADE, name, message))
 }
 
 impl Filled {
@@ -334,7 +334,7 @@ fn has_line(alloc: Global, lines: &str, pointer: &str, then: &str) -> Result<boo
 
 /// Returns the error of a line before which elements are missing.
 fn gap_error(alloc: Global, name: &str, number: usize, gap: MissingElements<'_>) -> ProgramError {
-    ProgramError::of_message(alloc, NOT_APPLIED, name, message(alloc, number, gap))
+    ProgramError::of_message(alloc, NOT_MADE, name, message(alloc, number, gap))
 }
 
 /// Returns what is said of a line before which elements are missing.

@@ -7,22 +7,23 @@ use crate::style::style_of;
 use crate::task::{result_of, run_task, tried};
 use crate::value_argument::ValueArgument;
 use clap::ArgMatches;
-use jptr_tasks::exit_status::{NOT_APPLIED, USAGE};
-use jptr_tasks::node::type_in_text;
+use jptr_tasks::exit_status::{NOT_MADE, USAGE};
+use jptr_tasks::layout::Layout;
+use jptr_tasks::node::{length_in_text, type_in_text};
 use jptr_tasks::patch::raw_patch;
 use jptr_tasks::raw_patch::RawPatch;
 use jptr_tasks::task::Task;
 use jptr_tasks::task_error::TaskError;
 use jsonptr::{Pointer, PointerBuf, Token};
 use jsonptr_in_text::exists_in_text;
-use jsonptr_patch::PatchError;
+use jsonptr_patch::{PatchError, is_proper_prefix};
 use jsonptr_value::{NodeType, if_json};
 use serde_json::Value;
 use std::alloc::{AllocError, Global};
 use std::borrow::CowStr;
 
 /// Why a value is not moved.
-const INTO_SELF: &str = "FROM is a proper prefix of POINTER";
+const INTO_SELF: &str = "FROM is a proper prefix of it";
 
 /// An operation, and the pointers that an error can be about.
 #[derive(Drop)]
@@ -62,7 +63,15 @@ pub fn transfer(
     check_json(alloc, command, matches.get_str("FILE"))?;
     let from = pointer_of(alloc, argument(matches, "FROM"))?;
     let path = pointer_of(alloc, argument(matches, "POINTER"))?;
-    run(rt, matches, &transfer_of(alloc, command, from, path)?)
+    if command == "move" && is_proper_prefix(from, path) {
+        return Err(ProgramError::new(alloc, USAGE, "POINTER", INTO_SELF));
+    }
+    let operation = transfer_of(alloc, command, from, path)?;
+    if command == "copy" || matches.get_flag("lines") {
+        return run(rt, matches, &operation);
+    }
+    let source = Source::open(rt, matches)?;
+    put_moved(rt, matches, &source, operation)
 }
 
 /// Returns the operation that moves or copies a value.
@@ -229,7 +238,7 @@ fn check_member(
         Ok(NodeType::Object) => {}
         Ok(_) => return Err(ProgramError::new(
             alloc,
-            NOT_APPLIED,
+            NOT_MADE,
             source.name,
             "not a member of an object",
         )),
@@ -242,7 +251,7 @@ fn check_member(
         Ok(false) => Ok(()),
         Ok(true) => Err(ProgramError::new(
             alloc,
-            NOT_APPLIED,
+            NOT_MADE,
             source.name,
             "there is a member with this key",
         )),
@@ -289,9 +298,6 @@ fn put(
         Ok(new) => {
             source.put(rt, new.as_str())?;
             Ok(0)
-        }
-        Err(TaskError::PatchFailed(PatchError::MoveIntoSelf { .. })) => {
-            Err(ProgramError::new(alloc, NOT_APPLIED, source.name, INTO_SELF))
         }
         Err(error) => {
             let pointer = pointer_at_fault(alloc, source, operation)?;

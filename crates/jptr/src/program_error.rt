@@ -3,7 +3,7 @@
 use crate::report::drawn;
 use crate::shown::{printable, shown};
 use crate::syntax::{explain, unclosed_comment};
-use jptr_tasks::exit_status::{BAD_INPUT, MEMORY, NOT_APPLIED};
+use jptr_tasks::exit_status::{BAD_INPUT, MEMORY, USAGE};
 use jptr_tasks::task_error::TaskError;
 use jsonptr::diagnostic::Diagnostic;
 use jsonptr::{EncodingError, ParseError, PointerBuf};
@@ -100,12 +100,25 @@ impl ProgramError {
 
     /// Returns the error of an argument that is not a pointer.
     pub fn of_pointer(alloc: Global, text: &str, error: ParseError) -> ProgramError {
-        ProgramError::of_text(NOT_APPLIED, pointer_text(alloc, text, error))
+        ProgramError::of_text(USAGE, pointer_text(alloc, text, error))
     }
 
     /// Returns the error of an argument that is not a token.
     pub fn of_token(alloc: Global, text: &str, error: EncodingError) -> ProgramError {
-        ProgramError::of_text(NOT_APPLIED, token_text(alloc, text, error))
+        ProgramError::of_text(USAGE, token_text(alloc, text, error))
+    }
+
+    /// Returns the error of a command line, with this text of one line or several.
+    pub fn of_usage(alloc: Global, text: &str) -> ProgramError {
+        ProgramError::of_text(USAGE, printable(alloc, text))
+    }
+
+    /// Returns the error with another exit status.
+    pub fn with_status(self, status: u8) -> ProgramError {
+        match self {
+            ProgramError::Other(_, text) => ProgramError::Other(status, text),
+            error => error,
+        }
     }
 
     /// Returns the error of a value that is not a JSON text. A word may be meant as a string.

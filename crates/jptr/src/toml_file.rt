@@ -9,7 +9,7 @@ use crate::shown::shown;
 use crate::source::Source;
 use crate::value_argument::{ValueArgument, toml_default};
 use clap::ArgMatches;
-use jptr_tasks::exit_status::{BAD_INPUT, NOT_APPLIED, USAGE};
+use jptr_tasks::exit_status::{BAD_INPUT, NOT_MADE, USAGE};
 use jptr_tasks::task_error::TaskError;
 use jsonptr::Pointer;
 use jsonptr_edit_in_toml::{Edited, assign_in_toml, delete_in_toml};
@@ -126,13 +126,23 @@ fn read_error(alloc: Global, source: &Source<'_>, error: ReadTomlError) -> Progr
         ReadTomlError::Memory(_) => return ProgramError::Memory,
     };
     ProgramError::of_message(alloc, BAD_INPUT, source.name, message)
+    if let Some(name) = json_flag(matches) {
+        return Err(flag_error(alloc, name, "is for JSON, and the document is TOML"));
+    }
+    if matches.get_flag("lossy") && !has_value {
+        return Err(flag_error(
+            alloc,
+            "lossy",
+            "does nothing here: reading TOML loses no digit",
+        ));
+    }
 }
 
 /// Returns the error of a new document that is not printed.
 fn print_error(alloc: Global, source: &Source<'_>, error: PrintTomlError) -> ProgramError {
     match error {
         PrintTomlError::TooDeep | PrintTomlError::NoText => {
-            ProgramError::of_message(alloc, NOT_APPLIED, source.name, error.to_string(alloc))
+            ProgramError::of_message(alloc, NOT_MADE, source.name, error.to_string(alloc))
         }
         PrintTomlError::Memory(_) => ProgramError::Memory,
     }
