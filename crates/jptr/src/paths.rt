@@ -20,6 +20,9 @@ use std::alloc::{AllocError, Global};
 /// Prints a line for each leaf of a document, or for each node.
 pub fn paths(rt: &HostRuntime, matches: &ArgMatches<'_>) -> Result<u8, ProgramError> {
     let alloc = rt.alloc();
+    if FileFormat::of(matches) == FileFormat::Toml {
+        toml_file::check_flags(alloc, matches, false)?;
+    }
     let source = Source::open(rt, matches)?;
     let which = if matches.get_flag("all") {
         Listed::AllNodes

@@ -22,13 +22,19 @@ use std::alloc::{AllocError, Global};
 use toml::table_from_str;
 
 /// Prints the value that the pointer resolves to, or the value of `--default`, as TOML.
+/// The flags that say nothing about a TOML document, or about how one is printed.
+const JSON_FLAGS: [&str; 4] = ["pretty", "compact", "sort-keys", "comments"];
+
+/// The flags with a value that say nothing about how a TOML document is printed.
+const JSON_VALUES: [&str; 2] = ["indent", "color"];
+
 pub fn get(
     rt: &HostRuntime,
     matches: &ArgMatches<'_>,
     pointer: Pointer<'_>,
 ) -> Result<u8, ProgramError> {
     let alloc = rt.alloc();
-    check_no_lines(alloc, matches)?;
+    check_flags(alloc, matches, matches.get_str("default").is_some())?;
     let source = Source::open(rt, matches)?;
     let value = match resolve_in_toml(alloc, source.text(alloc)?, pointer) {
         Ok(value) => value,
@@ -51,7 +57,7 @@ pub fn set(
     pointer: Pointer<'_>,
 ) -> Result<u8, ProgramError> {
     let alloc = rt.alloc();
-    check_no_lines(alloc, matches)?;
+    check_flags(alloc, matches, true)?;
     let value = ValueArgument::read(rt, matches, argument(matches, "JSON"))?.toml(alloc, matches)?;
     let source = Source::open(rt, matches)?;
     if matches.get_flag("no-expand") {
@@ -73,7 +79,7 @@ pub fn delete(
     pointer: Pointer<'_>,
 ) -> Result<u8, ProgramError> {
     let alloc = rt.alloc();
-    check_no_lines(alloc, matches)?;
+    check_flags(alloc, matches, false)?;
     let source = Source::open(rt, matches)?;
     match delete_in_toml(alloc, source.text(alloc)?, pointer) {
         Ok(Some(edited)) => put(rt, matches, &source, pointer, edited),
@@ -110,8 +116,12 @@ fn put(
     Ok(0)
 }
 
-/// Fails if the flag `--lines` is there.
-fn check_no_lines(alloc: Global, matches: &ArgMatches<'_>) -> Result<(), ProgramError> {
+/// Fails if a flag is there that does nothing on TOML. The flag `--lossy` is for a value that is given.
+pub fn check_flags(
+    alloc: Global,
+    matches: &ArgMatches<'_>,
+    has_value: bool,
+) -> Result<(), ProgramError> {
     if matches.get_flag("lines") {
         return Err(ProgramError::new(alloc, USAGE, "--lines", "a line is no TOML document"));
     }
@@ -129,6 +139,29 @@ fn read_error(alloc: Global, source: &Source<'_>, error: ReadTomlError) -> Progr
     if let Some(name) = json_flag(matches) {
         return Err(flag_error(alloc, name, "is for JSON, and the document is TOML"));
     }
+/// Returns the name of a flag that is there and is for JSON, if there is one.
+fn json_flag(matches: &ArgMatches<'_>) -> Option<&'static str> {
+    for name in JSON_FLAGS {
+        if matches.get_flag(name) {
+            return Some(name);
+        }
+    }
+    for name in JSON_VALUES {
+        if matches.get_str(name).is_some() {
+            return Some(name);
+        }
+    }
+    None
+}
+
+/// Returns the error of a flag that does nothing.
+fn flag_error(alloc: Global, name: &str, message: &str) -> ProgramError {
+    match format!(in alloc; "--{name}") {
+        Ok(flag) => ProgramError::new(alloc, USAGE, flag.as_str(), message),
+        Err(_) => ProgramError::Memory,
+    }
+}
+
     if matches.get_flag("lossy") && !has_value {
         return Err(flag_error(
             alloc,
