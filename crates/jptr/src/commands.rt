@@ -8,7 +8,9 @@ use crate::inverse::patch_with_inverse;
 use crate::locate::locate;
 use crate::long_patch::patch_long;
 use crate::node::{print_node, test};
-use crate::operands::{argument, check_json, is_toml_name, more_operands, pointer_of};
+use crate::operands::{
+    argument, check_json, check_last_word, is_toml_name, more_operands, pointer_of,
+};
 use crate::operation::{insert, rename, transfer};
 use crate::output::{print_line, print_text};
 use crate::patch_file::PatchFile;
@@ -101,6 +103,7 @@ fn run_command(
 
 /// Finds a value, or several.
 fn get(rt: &HostRuntime, matches: &ArgMatches<'_>) -> Result<u8, ProgramError> {
+    check_last_word(rt, matches)?;
     let alloc = rt.alloc();
     let more = more_operands(alloc, matches)?;
     if !more.is_empty() || matches.get_flag("object") {
@@ -129,6 +132,7 @@ fn set(rt: &HostRuntime, matches: &ArgMatches<'_>) -> Result<u8, ProgramError> {
 }
 
 /// Deletes a value, or several.
+    check_last_word(rt, matches)?;
 fn delete(rt: &HostRuntime, matches: &ArgMatches<'_>) -> Result<u8, ProgramError> {
     let more = more_operands(rt.alloc(), matches)?;
     if !more.is_empty() {
@@ -151,7 +155,12 @@ fn patch(rt: &HostRuntime, matches: &ArgMatches<'_>) -> Result<u8, ProgramError>
         return Err(ProgramError::new(alloc, USAGE, "PATCHFILE", message));
     }
     if is_toml_name(matches.get_str("FILE")) {
-        return Err(ProgramError::new(alloc, USAGE, "patch", "not on TOML: use set and delete"));
+        return Err(ProgramError::new(
+            alloc,
+            USAGE,
+            "patch",
+            "takes JSON, not TOML: use set and delete",
+        ));
     }
     let patch = PatchFile::read(rt, name)?;
     if let Some(undo) = matches.get_str("inverse") {

@@ -244,19 +244,40 @@ fn patch_text(
         return Err(AllocError);
     };
     let name = shown(alloc, name)?;
-    let text = format!(in alloc; "jptr: {name}: {error}\n")?;
+    let hint = patch_hint(document);
+    let text = format!(in alloc; "jptr: {name}: {error}{hint}\n")?;
     let Some(pointer) = error.pointer_text(document) else {
         return Ok(text);
     };
     let report = error.into_report(String::from_str(alloc, pointer)?);
-    append_lines(text, report.render(alloc)?.as_str())
+    append_lines(text, drawn(alloc, &report)?.as_str())
+}
+
+/// Returns what is printed after the text of an error of a document that is not a patch.
+fn patch_hint(document: &Value) -> &'static str {
+    match document {
+        Value::Object(_) => "; a merge patch (RFC 7396) is not taken",
+        _ => "",
+    }
 }
 
 /// Returns the text of the error of a pointer.
 fn pointer_text(alloc: Global, pointer: &str, error: ParseError) -> Result<String, AllocError> {
-    let text = format!(in alloc; "jptr: POINTER: {error}\n")?;
+    let hint = pointer_hint(pointer);
+    let text = format!(in alloc; "jptr: POINTER: {error}{hint}\n")?;
     let report = error.into_report(String::from_str(alloc, pointer)?);
-    append_lines(text, report.render(alloc)?.as_str())
+    append_lines(text, drawn(alloc, &report)?.as_str())
+}
+
+/// Returns what is printed after the text of an error of a pointer: what a pointer looks like.
+fn pointer_hint(pointer: &str) -> &'static str {
+    match pointer.as_bytes().first() {
+        None | Some(b'/') => "",
+        Some(b'#') => "; leave out the #, and write a character for each of its %-codes",
+        Some(b'.') => "; write /a/0 for .a[0], and '' for the whole document",
+        Some(_) =>
+            "; a pointer looks like /a/0 and comes before FILE, and '' is the whole document",
+    }
 }
 
 /// Returns the text of the error of a token.
@@ -269,6 +290,9 @@ fn token_text(alloc: Global, token: &str, error: EncodingError) -> Result<String
 /// Returns the text of the error of bytes that are not JSON, with its line and column.
 fn json_text(alloc: Global, name: &str, bytes: &[u8]) -> Result<String, AllocError> {
     let name = shown(alloc, name)?;
+    if bytes.trim_ascii().is_empty() {
+        return format!(in alloc; "jptr: {name}: the input is empty\n");
+    }
     if let Ok(text) = from_utf8(bytes) {
         if let Some(why) = explain(alloc, text)? {
             return format!(in alloc; "jptr: {name}: {why}\n");

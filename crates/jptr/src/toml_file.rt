@@ -7,6 +7,7 @@ use crate::position::Position;
 use crate::program_error::ProgramError;
 use crate::shown::shown;
 use crate::source::Source;
+use crate::syntax::row_at;
 use crate::value_argument::{ValueArgument, toml_default};
 use clap::ArgMatches;
 use jptr_tasks::exit_status::{BAD_INPUT, NOT_MADE, USAGE};
@@ -220,15 +221,16 @@ fn refusal<E>(
     }
 }
 
-/// Returns why the text is not TOML, with the line and the column.
+/// Returns why the text is not TOML: the line and the column, and below them that line and a caret.
 fn not_toml(alloc: Global, text: &str) -> Result<String, AllocError> {
     match table_from_str(alloc, text) {
         Err(error) if error.is_memory() => Err(AllocError),
         Err(error) => {
             let start = error.span().map_or(0, |span| span.start);
             let Position { line, column } = Position::at(text, start);
-            let message = error.message();
-            format!(in alloc; "text is not TOML: {message} at line {line} column {column}")
+            let message = shown(alloc, error.message())?;
+            let row = row_at(alloc, text, start)?;
+            format!(in alloc; "text is not TOML: {message} at line {line} column {column}\n{row}")
         }
         Ok(_) => String::from_str(alloc, "text is not TOML"),
     }
