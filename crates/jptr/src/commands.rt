@@ -102,8 +102,8 @@ fn run_command(
 
 /// Finds a value, or several.
 fn get(rt: &HostRuntime, matches: &ArgMatches<'_>) -> Result<u8, ProgramError> {
-    check_last_word(rt, matches)?;
     let alloc = rt.alloc();
+    check_last_word(rt, matches)?;
     let more = more_operands(alloc, matches)?;
     if !more.is_empty() || matches.get_flag("object") {
         return get_each(rt, matches, more.as_slice());
@@ -131,8 +131,8 @@ fn set(rt: &HostRuntime, matches: &ArgMatches<'_>) -> Result<u8, ProgramError> {
 }
 
 /// Deletes a value, or several.
-    check_last_word(rt, matches)?;
 fn delete(rt: &HostRuntime, matches: &ArgMatches<'_>) -> Result<u8, ProgramError> {
+    check_last_word(rt, matches)?;
     let more = more_operands(rt.alloc(), matches)?;
     if !more.is_empty() {
         return delete_each(rt, matches, more.as_slice());

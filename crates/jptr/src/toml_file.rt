@@ -22,13 +22,13 @@ use simdutf8::basic::from_utf8;
 use std::alloc::{AllocError, Global};
 use toml::table_from_str;
 
-/// Prints the value that the pointer resolves to, or the value of `--default`, as TOML.
 /// The flags that say nothing about a TOML document, or about how one is printed.
 const JSON_FLAGS: [&str; 4] = ["pretty", "compact", "sort-keys", "comments"];
 
 /// The flags with a value that say nothing about how a TOML document is printed.
 const JSON_VALUES: [&str; 2] = ["indent", "color"];
 
+/// Prints the value that the pointer resolves to, or the value of `--default`, as TOML.
 pub fn get(
     rt: &HostRuntime,
     matches: &ArgMatches<'_>,
@@ -126,20 +126,19 @@ pub fn check_flags(
     if matches.get_flag("lines") {
         return Err(ProgramError::new(alloc, USAGE, "--lines", "a line is no TOML document"));
     }
-    Ok(())
-}
-
-/// Returns the error of a text that is not read.
-fn read_error(alloc: Global, source: &Source<'_>, error: ReadTomlError) -> ProgramError {
-    let message = match error {
-        ReadTomlError::NotToml => not_toml(alloc, from_utf8(source.as_bytes()).unwrap_or("")),
-        ReadTomlError::DocumentTooDeep => error.to_string(alloc),
-        ReadTomlError::Memory(_) => return ProgramError::Memory,
-    };
-    ProgramError::of_message(alloc, BAD_INPUT, source.name, message)
     if let Some(name) = json_flag(matches) {
         return Err(flag_error(alloc, name, "is for JSON, and the document is TOML"));
     }
+    if matches.get_flag("lossy") && !has_value {
+        return Err(flag_error(
+            alloc,
+            "lossy",
+            "does nothing here: reading TOML loses no digit",
+        ));
+    }
+    Ok(())
+}
+
 /// Returns the name of a flag that is there and is for JSON, if there is one.
 fn json_flag(matches: &ArgMatches<'_>) -> Option<&'static str> {
     for name in JSON_FLAGS {
@@ -163,13 +162,14 @@ fn flag_error(alloc: Global, name: &str, message: &str) -> ProgramError {
     }
 }
 
-    if matches.get_flag("lossy") && !has_value {
-        return Err(flag_error(
-            alloc,
-            "lossy",
-            "does nothing here: reading TOML loses no digit",
-        ));
-    }
+/// Returns the error of a text that is not read.
+fn read_error(alloc: Global, source: &Source<'_>, error: ReadTomlError) -> ProgramError {
+    let message = match error {
+        ReadTomlError::NotToml => not_toml(alloc, from_utf8(source.as_bytes()).unwrap_or("")),
+        ReadTomlError::DocumentTooDeep => error.to_string(alloc),
+        ReadTomlError::Memory(_) => return ProgramError::Memory,
+    };
+    ProgramError::of_message(alloc, BAD_INPUT, source.name, message)
 }
 
 /// Returns the error of a new document that is not printed.
