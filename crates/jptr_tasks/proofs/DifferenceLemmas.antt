@@ -1,8 +1,10 @@
 -- What is printed can be read again, and a patch that is printed applies.
-use Rattle.std.proofs.Common.{◌≡◌, ◌≢◌, ◌≤◌, ◌⊎◌, inl, inr, List, Option, Some, None, MatchOption, refl, sym, ap, ◌∙◌, subst}
+use Rattle.std.proofs.Common.{◌≡◌, ◌≢◌, ◌≤◌, ◌⊎◌, inl, inr, ℕ, suc, List, [], ◌∷◌, map, All, Option, Some, None, MatchOption, refl, sym, ap, ◌∙◌, subst, arith}
+use Rattle.std.proofs.lemmas.List.Elements.{All-head, All-tail}
 use Rattle.std.specs.declared.alloc.AllocError.{AllocError}
-use Rattle.serde_json.specs.Data.{Data, depth}
+use Rattle.serde_json.specs.Data.{Data, depth, items_depth}
 use Rattle.serde_json.specs.Find.{as_str}
+use Rattle.serde_json.specs.View.{items_of}
 use Rattle.serde_json.specs.Read.{read, max_depth}
 use Rattle.serde_json.proofs.Nesting.{depth-read}
 use Rattle.jsonptr.specs.Text.{Text}
@@ -15,7 +17,9 @@ use Rattle.jsonptr_patch.specs.declared.comparison.Comparison.TheVariants.{Numer
 use Rattle.jsonptr_patch.specs.declared.operation.Operation.{Operation}
 use Rattle.jsonptr_patch.specs.declared.operation.PatchError.{PatchError}
 use Rattle.jsonptr_patch_document.specs.Document.{IsPatch, IsNoPatch}
-use Rattle.jsonptr_patch_document.specs.Writing.{document_of}
+use Rattle.jsonptr_diff.specs.Diff.{HasValueWithin}
+use Rattle.jsonptr_patch.specs.declared.operation.Operation.TheVariants.{Add, Remove, Replace, Move, Copy, Test}
+use Rattle.jsonptr_patch_document.specs.Writing.{document_of, written_object}
 use Rattle.jsonptr_patch_document.specs.declared.error.PatchDocumentError.{PatchDocumentError}
 use Rattle.jsonptr_edit_in_text.specs.PatchInText.{IsPatchError}
 use Rattle.jsonptr_edit_in_text.specs.declared.edited.EditError.TheVariants as edit
@@ -54,10 +58,24 @@ patch_reads Sorted os text le h = h.reads_back le
 patch_reads SortedPretty os text le h = h.reads_back le
 patch_reads Raw os text le h = h.reads_back le
 
-pub patch_fault : (n m : NodeMap) (os : List Operation) (e : TaskError) → Patches n os m → IsPatchTextFault os e → FailsToDiffer n m e
-patch_fault n m os PatchTooDeep turns h = (os, turns, h)
-patch_fault n m os (Memory f) turns h = tt
-patch_fault n m os other turns h = absurd h
+-- the object of an operation is one level deeper than its value, and the patch document two
+object_within : (k : ℕ) (o : Operation) → HasValueWithin k o → depth (written_object o) ≤ suc k
+object_within k (Add path value) h = omega (arith, h)
+object_within k (Remove path) h = omega arith
+object_within k (Replace path value) h = omega (arith, h)
+object_within k (Move from path) h = omega arith
+object_within k (Copy from path) h = omega arith
+object_within k (Test path value) h = omega (arith, h)
+
+objects_within : (k : ℕ) (os : List Operation) → All (HasValueWithin k) os → items_depth (items_of (map written_object os)) ≤ suc k
+objects_within k [] all = omega arith
+objects_within k (o ∷ os) all =
+    omega (arith, object_within k o (All-head (HasValueWithin k) o os all), objects_within k os (All-tail (HasValueWithin k) o os all))
+
+pub patch_fault : (new : Data) (os : List Operation) (e : TaskError) → All (HasValueWithin (depth new)) os → IsPatchTextFault os e → FailsToDiffer new e
+patch_fault new os PatchTooDeep shallow h = omega (arith, objects_within (depth new) os shallow, h)
+patch_fault new os (Memory f) shallow h = tt
+patch_fault new os other shallow h = absurd h
 
 shown_reads : (layout : Layout) (text out : Text) (d e : Data) → read text ≡ Some d → read text ≡ Some e → ShowsInLayout layout e out → ReadsBack layout d out
 shown_reads layout text out d e reads again h =

@@ -1,10 +1,11 @@
 -- The difference of two documents.
-use Rattle.std.specs.Prelude.{◌≡◌, ◌↔◌, ◌<◌, List, [], true, Some, ⊤, string_bytes}
-use Rattle.serde_json.specs.Data.{depth}
+use Rattle.std.specs.Prelude.{◌≡◌, ◌↔◌, ◌+◌, ◌<◌, List, [], true, Some, ⊤, string_bytes, All}
+use Rattle.serde_json.specs.Data.{Data, depth}
 use Rattle.serde_json.specs.Read.{read, max_depth}
 use Rattle.jsonptr.specs.Node.{NodeMap}
 use Rattle.jsonptr_patch.specs.Patching.{Patches}
 use Rattle.jsonptr_patch.specs.declared.operation.Operation.{Operation}
+use Rattle.jsonptr_diff.specs.Diff.{IsChange}
 use Rattle.jsonptr_patch_document.specs.Writing.{document_of}
 use Rattle.jptr_tasks.specs.Layouts.{ShowsInLayout}
 use Rattle.jptr_tasks.specs.declared.difference.PatchText.{PatchText}
@@ -22,12 +23,17 @@ IsDifference n m layout d =
     × (read (string_bytes d.text) ≡ Some (document_of os))
     × ((d.is_empty ≡ true) ↔ (os ≡ []))
 
--- `FailsToDiffer n m e`: `e` is why no patch document of operations that turn `n` into `m` is printed, unless an
--- allocation failed
-abbrev pub FailsToDiffer : NodeMap → NodeMap → TaskError → Type 0
-FailsToDiffer n m PatchTooDeep = (os : List Operation) × Patches n os m × (max_depth < depth (document_of os))
-FailsToDiffer n m (Memory f) = ⊤
-FailsToDiffer n m e = ⊥
+-- `HasChanges n m d`: the text of `d` is read as the patch document of operations that are changes of `n` into `m`
+abbrev pub HasChanges : NodeMap → NodeMap → PatchText → Type 0
+HasChanges n m d =
+    (os : List Operation) × (read (string_bytes d.text) ≡ Some (document_of os)) × All (IsChange n m) os
+
+-- `FailsToDiffer new e`: `e` is why no patch document of operations that make the document `new` is printed, unless an
+-- allocation failed. A value is two levels deeper in the patch document
+abbrev pub FailsToDiffer : Data → TaskError → Type 0
+FailsToDiffer new PatchTooDeep = max_depth < depth new + 2
+FailsToDiffer new (Memory f) = ⊤
+FailsToDiffer new e = ⊥
 
 -- `IsNoneIfSame n m d`: if `n` and `m` are the same, `d` has no operation
 abbrev pub IsNoneIfSame : NodeMap → NodeMap → PatchText → Type 0

@@ -6,7 +6,7 @@ ghost use Rattle.jsonptr.specs.Json.{nodes};
 ghost use Rattle.jsonptr_patch_document.specs.Writing.{document_of};
 ghost use Rattle.jptr_tasks.specs.Layouts.{ShowsInLayout};
 ghost use Rattle.jptr_tasks.specs.PrivateResults.{IsPatchTextFault};
-ghost use Rattle.jptr_tasks.specs.Differences.{IsDifference, IsNoneIfSame, FailsToDiffer};
+ghost use Rattle.jptr_tasks.specs.Differences.{HasChanges, IsDifference, IsNoneIfSame, FailsToDiffer};
 
 use crate::layout::{Layout, show};
 use crate::task_error::TaskError;
@@ -36,7 +36,7 @@ pub struct PatchText {
 /// # Errors
 ///
 /// - [`TaskError::PatchTooDeep`] if the patch document nests deeper than 127. A value is two levels
-///   deeper in it than in `new`, less the levels of its pointer.
+///   deeper in it than in `new`, less the levels of its pointer: so `new` nests deeper than 125.
 /// - [`TaskError::Memory`] if an allocation fails.
 ///
 /// # Examples
@@ -59,7 +59,8 @@ pub fn difference_of(
         (IsDifference (nodes (view old.now)) (nodes (view new.now)) layout) }
     ensures same { IfOk result
         (IsNoneIfSame (nodes (view old.now)) (nodes (view new.now))) }
-    ensures refused { IfErr result (FailsToDiffer (nodes (view old.now)) (nodes (view new.now))) }
+    ensures changes { IfOk result (HasChanges (nodes (view old.now)) (nodes (view new.now))) }
+    ensures refused { IfErr result (FailsToDiffer (view new.now)) }
 {
     let patch = diff(alloc, old, new)?;
     let text = patch_text(alloc, &patch, layout)?;

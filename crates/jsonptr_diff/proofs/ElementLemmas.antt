@@ -1,13 +1,14 @@
 -- The operations that turn one array into another: arrays of the first elements of one and the last of another.
-use Rattle.std.proofs.Common.{◌≡◌, ℕ, suc, ◌+◌, ◌-◌, ◌<◌, ◌≤◌, false, List, [], ◌∷◌, ◌++◌, length, get_or, drop, Option, Some, is_some, IsSome, ⊎_elim, Vec, Global, refl, sym, ap, ◌∙◌, subst, arith}
+use Rattle.std.proofs.Common.{◌≡◌, ℕ, zero, suc, ◌+◌, ◌-◌, ◌<◌, ◌≤◌, false, List, [], ◌∷◌, ◌++◌, length, get_or, drop, Option, Some, is_some, IsSome, ⊎_elim, Vec, Global, refl, sym, ap, ◌∙◌, subst, arith}
 use mathlib.Core.Path.{fun_ext}
 use Rattle.std.specs.List.{slice_range}
 use Rattle.std.proofs.lemmas.List.{get_or-take, get_or-drop}
 use Rattle.std.proofs.lemmas.Bool.{cases_lt}
-use Rattle.serde_json.specs.Data.{Data}
+use Rattle.serde_json.specs.Data.{Data, depth, items_depth}
 use Rattle.serde_json.specs.Find.{as_array}
 use Rattle.serde_json.specs.View.{view, items_view}
 use Rattle.serde_json.specs.declared.value.Value.{Value, Null, Array}
+use Rattle.serde_json.proofs.Views.{view-Array}
 use Rattle.jsonptr.specs.Text.{Text, dec}
 use Rattle.jsonptr.specs.Node.{Step, key, place, Path, Label, an_array, NodeMap, sub, NamesStep}
 use Rattle.jsonptr.specs.Put.{same_step, put}
@@ -23,7 +24,7 @@ use Rattle.jsonptr_patch.specs.declared.operation.Operation.{Operation}
 use Rattle.jsonptr_patch.proofs.InsertingLemmas.{with_place-same, with_place-below, with_place-above, with_place-root}
 use Rattle.jsonptr_patch.proofs.TestingLemmas.{element_label, past_label, array_label, no_key_label, any_default}
 use Rattle.jsonptr_diff.specs.PrivateSame.{IsSame, SameSuffix, AreSameFrom}
-use Rattle.jsonptr_diff.specs.PrivateDiff.{AppendsRemove, AppendsAdd, AppendsChanges, AppendsParts, Turns, array_map, IsArray, IsSpliced, Splices}
+use Rattle.jsonptr_diff.specs.PrivateDiff.{AppendsRemove, AppendsAdd, AppendsChanges, AppendsParts, Turns, array_map, IsArray, IsLike, IsSpliced, Splices}
 use Rattle.jsonptr_diff.specs.PrivateSame.{SameElements}
 use Rattle.jsonptr_diff.proofs.ChangeLemmas.{parts_changes}
 use Rattle.jsonptr_diff.proofs.SameLemmas.{twin_same, twin_made, elements_same}
@@ -38,9 +39,17 @@ element_map v i x h = fun_ext (λ (p : Path). element_label v i p x h)
 pub element_read : (v : Vec Value Global) (i : ℕ) (x : Value) → i < length v.items → x ≡ get_or v.items i x → sub (array_map v) (place i ∷ []) ≡ nodes (view x)
 element_read v i x h is = element_map v i x h ∙ ap (λ (u : Value). nodes (view u)) (sym is)
 
--- the keys in an element of an array with sorted keys are sorted
-pub element_sorted : (v : Vec Value Global) (i : ℕ) (x : Value) → i < length v.items → x ≡ get_or v.items i x → HasSortedKeys (view (Array v)) → HasSortedKeys (view x)
-element_sorted v i x h is sorted = ascends_part (place i ∷ []) (view (Array v)) (view x) sorted (content_at-Array content_of Array array_is v i x h ∙ ap (λ (u : Value). Some (content_of u)) (sym is))
+item_within : (vs : List Value) (i : ℕ) (x : Value) → i < length vs → depth (view (get_or vs i x)) ≤ items_depth (items_view vs)
+item_within [] i x low = absurd (omega (arith, low))
+item_within (v ∷ vs) zero x low = omega arith
+item_within (v ∷ vs) (suc i) x low = let later = item_within vs i x (omega (arith, low)) in omega (arith, later)
+
+-- the keys in an element of an array with sorted keys are sorted, and it nests less deep
+pub element_like : (v : Vec Value Global) (i : ℕ) (x : Value) → i < length v.items → x ≡ get_or v.items i x → IsLike (view (Array v)) (view x)
+element_like v i x h is = record {
+  sorted = λ sorted. ascends_part (place i ∷ []) (view (Array v)) (view x) sorted (content_at-Array content_of Array array_is v i x h ∙ ap (λ (u : Value). Some (content_of u)) (sym is));
+  shallow = omega (arith, item_within v.items i x h, ap (λ (u : Value). depth (view u)) is, ap depth (view-Array v));
+}
 
 pub array_is_array : (v : Vec Value Global) → IsArray (array_map v) (length v.items)
 array_is_array v = record {
@@ -198,11 +207,11 @@ pub splices_keep : (goal : Data) (first last : List Operation) (base : List Text
 splices_keep goal first last base c d i k left same (e, s, turns) = (e, spliced_keep c d i k left e same s, turns)
 
 -- an element that is followed
-pub splices_put : (goal part : Data) (first before after : List Operation) (base : List Text) (c d : NodeMap) (i k left len : ℕ) (v w : NodeMap) → (HasSortedKeys goal → HasSortedKeys part) → IsArray c len → k < len → sub c (place k ∷ []) ≡ v → sub d (place i ∷ []) ≡ w → Splices goal first before base c d i k (suc left) → Turns part before after (base ++ dec i ∷ []) v w → Splices goal first after base c d (suc i) (suc k) left
-splices_put goal part first before after base c d i k left len v w has a inside old new (e, s, turns) child =
+pub splices_put : (goal part : Data) (first before after : List Operation) (base : List Text) (c d : NodeMap) (i k left len : ℕ) (v w : NodeMap) → IsLike goal part → IsArray c len → k < len → sub c (place k ∷ []) ≡ v → sub d (place i ∷ []) ≡ w → Splices goal first before base c d i k (suc left) → Turns part before after (base ++ dec i ∷ []) v w → Splices goal first after base c d (suc i) (suc k) left
+splices_put goal part first before after base c d i k left len v w like a inside old new (e, s, turns) child =
     let here : v ≡ sub e (place i ∷ []) = sym old ∙ sym (rest_first c d i k (suc left) e s) in
     let there : IsSome (e (place i ∷ [])) = subst (λ (q : NodeMap). IsSome (q [])) (old ∙ here) (a.full k inside) in
-    let step : Turns goal before after base e (put e (place i ∷ []) w) = turns_below goal before after base (dec i) (place i) e v w (subst (λ (l : Option Label). NamesStep l (dec i) (place i)) (sym s.root) (omega arith, refl)) there here (turns_part goal part before after (base ++ dec i ∷ []) v w has child) in (
+    let step : Turns goal before after base e (put e (place i ∷ []) w) = turns_below goal before after base (dec i) (place i) e v w (subst (λ (l : Option Label). NamesStep l (dec i) (place i)) (sym s.root) (omega arith, refl)) there here (turns_part goal part before after (base ++ dec i ∷ []) v w like child) in (
       put e (place i ∷ []) (sub d (place i ∷ [])),
       spliced_put c d i k left e s,
       turns_further goal first before after base c e (put e (place i ∷ []) (sub d (place i ∷ []))) (label_some e _ s.root) turns (subst (λ (q : NodeMap). Turns goal before after base e (put e (place i ∷ []) q)) (sym new) step),
@@ -218,9 +227,9 @@ splices_less goal first before after base c d i k left len a inside (e, s, turns
     )
 
 -- an element that is inserted
-pub splices_more : (goal part : Data) (first before after : List Operation) (base : List Text) (c d : NodeMap) (i k left : ℕ) → (HasSortedKeys goal → HasSortedKeys part) → sub d (place i ∷ []) ≡ nodes part → Splices goal first before base c d i k left → AppendsAdd before after (base ++ dec i ∷ []) part → Splices goal first after base c d (suc i) k left
-splices_more goal part first before after base c d i k left has is (e, s, turns) comes =
-    let step = turns_part goal part before after base e (with_place i (nodes part) e) has (turns_add_element before after base i (i + left) e part s.root (omega arith) comes) in (
+pub splices_more : (goal part : Data) (first before after : List Operation) (base : List Text) (c d : NodeMap) (i k left : ℕ) → IsLike goal part → sub d (place i ∷ []) ≡ nodes part → Splices goal first before base c d i k left → AppendsAdd before after (base ++ dec i ∷ []) part → Splices goal first after base c d (suc i) k left
+splices_more goal part first before after base c d i k left like is (e, s, turns) comes =
+    let step = turns_part goal part before after base e (with_place i (nodes part) e) like (turns_add_element before after base i (i + left) e part s.root (omega arith) comes) in (
       with_place i (sub d (place i ∷ [])) e,
       spliced_more c d i k left e s,
       turns_further goal first before after base c e (with_place i (sub d (place i ∷ [])) e) (label_some e _ s.root) turns (subst (λ (q : NodeMap). Turns goal before after base e (with_place i q e)) (sym is) step),

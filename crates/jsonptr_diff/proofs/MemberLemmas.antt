@@ -1,13 +1,14 @@
 -- The operations that turn one object into another, member by member.
-use Rattle.std.proofs.Common.{◌≡◌, Bool, false, List, ℕ, [], ◌∷◌, ◌++◌, Option, Some, None, inl, is_some, option_map, IsSome, true≢false, string_bytes, string_cmp, refl, sym, ap, ◌∙◌, subst}
+use Rattle.std.proofs.Common.{◌≡◌, ◌≤◌, Bool, true, false, cond, is_eq, nat_cmp, List, ℕ, [], ◌∷◌, ◌++◌, Option, Some, None, inl, is_some, option_map, IsSome, true≢false, string_bytes, string_cmp, refl, sym, ap, ◌∙◌, subst, arith}
+use Rattle.std.specs.Cmp.Lexicographic.{slice_cmp}
 use Rattle.std.specs.BTreeMap.{get_by_text}
 use Rattle.std.specs.List.Sorted.{IsStrictlySortedBy}
 use Rattle.std.specs.Map.{keys_of}
-use Rattle.serde_json.specs.Data.{Data}
+use Rattle.serde_json.specs.Data.{Data, depth, members_depth}
 use Rattle.serde_json.specs.Find.{as_object}
 use Rattle.serde_json.specs.View.{view, members_view}
 use Rattle.serde_json.specs.declared.value.Value.{Value, Object}
-use Rattle.serde_json.proofs.Views.{Entry}
+use Rattle.serde_json.proofs.Views.{Entry, view-Object}
 use Rattle.jsonptr.specs.Text.{Text}
 use Rattle.jsonptr.specs.Node.{key, Label, an_object, NodeMap, sub, NamesStep}
 use Rattle.jsonptr.specs.Put.{put}
@@ -17,17 +18,30 @@ use Rattle.jsonptr_tree.proofs.LevelLemmas.{content_at-Object}
 use Rattle.jsonptr_document.proofs.JsonLevel.{object_at}
 use Rattle.jsonptr_patch.specs.PrivateTesting as tested
 use Rattle.jsonptr_patch.specs.declared.operation.Operation.{Operation}
-use Rattle.jsonptr_patch.proofs.TestingLemmas.{object_label}
+use Rattle.jsonptr_patch.proofs.TestingLemmas.{found_under, object_label}
 use Rattle.jsonptr_diff.specs.Diff.{AreOfOneKind}
 use Rattle.jsonptr_diff.specs.PrivateSame.{IsSame, SameMember, SameMembers}
-use Rattle.jsonptr_diff.specs.PrivateDiff.{AppendsRemove, AppendsAdd, AppendsChanges, Turns, object_map, mixed}
+use Rattle.jsonptr_diff.specs.PrivateDiff.{AppendsRemove, AppendsAdd, AppendsChanges, IsLike, Turns, object_map, mixed}
 use Rattle.jsonptr_diff.proofs.TurningLemmas.{turns_nowhere, turns_further, turns_as, turns_part, turns_below, turns_remove_member, turns_add_member}
 use Rattle.jsonptr_diff.proofs.ChangeLemmas.{changes_under, changes_remove, changes_add}
 use Rattle.jsonptr_diff.proofs.MixedLemmas.{without-put, mixed_none, mixed_push, mixed_left, mixed_all, mixed_skip, member_map, no_member_map, entry_found, entry_before}
 
--- the keys in a member of an object with sorted keys are sorted
-pub member_sorted : (n : tested.Object) (k : Text) (w : Value) → get_by_text n k ≡ Some w → HasSortedKeys (view (Object n)) → HasSortedKeys (view w)
-member_sorted n k w found sorted = ascends_part (key k ∷ []) (view (Object n)) (view w) sorted (content_at-Object content_of Object object_is n k ∙ ap (option_map content_of) found)
+first_or_later : (e : Entry) (es : List Entry) (k : Text) (w : Value) (b : Bool) → (found_under k es ≡ Some w → depth (view w) ≤ members_depth (members_view es)) → cond b (Some e.1) (found_under k es) ≡ Some w → depth (view w) ≤ members_depth (members_view (e ∷ es))
+first_or_later e es k w true later is =
+    let same : e.1 ≡ w = cc in
+    omega (arith, ap (λ (u : Value). depth (view u)) same)
+first_or_later e es k w false later is = omega (arith, later is)
+
+member_within : (es : List Entry) (k : Text) (w : Value) → found_under k es ≡ Some w → depth (view w) ≤ members_depth (members_view es)
+member_within [] k w found = let none : ⊥ = cc in absurd none
+member_within (e ∷ es) k w found = first_or_later e es k w (is_eq (slice_cmp nat_cmp k (string_bytes e.0))) (member_within es k w) found
+
+-- the keys in a member of an object with sorted keys are sorted, and it nests less deep
+pub member_like : (n : tested.Object) (k : Text) (w : Value) → get_by_text n k ≡ Some w → IsLike (view (Object n)) (view w)
+member_like n k w found = record {
+  sorted = λ sorted. ascends_part (key k ∷ []) (view (Object n)) (view w) sorted (content_at-Object content_of Object object_is n k ∙ ap (option_map content_of) found);
+  shallow = omega (arith, member_within n.entries k w found, ap depth (view-Object n));
+}
 
 pub mixed_root : (m : tested.Object) (done : List Entry) (d : NodeMap) → IsSome (mixed done (object_map m) d [])
 mixed_root m done d = subst (λ (l : Option Label). IsSome l) (sym (object_label m)) refl
@@ -44,7 +58,7 @@ member_turns m n first before after base done e more k w name is ordered found t
     let mid = mixed done (object_map m) (object_map n) in
     let here : nodes (view e.1) ≡ sub mid (key l ∷ []) = sym (member_map m l e.1 (entry_found m done e more is ordered)) ∙ sym (mixed_left done l (object_map m) (object_map n) (entry_before m done e more is ordered)) in
     let root : mid [] ≡ Some an_object = object_label m in
-    let part : Turns goal before after (base ++ l ∷ []) (nodes (view e.1)) (nodes (view w)) = turns_part goal (view w) before after (base ++ l ∷ []) (nodes (view e.1)) (nodes (view w)) (member_sorted n l w found) (subst (λ (t : Text). Turns (view w) before after (base ++ t ∷ []) (nodes (view e.1)) (nodes (view w))) name child) in
+    let part : Turns goal before after (base ++ l ∷ []) (nodes (view e.1)) (nodes (view w)) = turns_part goal (view w) before after (base ++ l ∷ []) (nodes (view e.1)) (nodes (view w)) (member_like n l w found) (subst (λ (t : Text). Turns (view w) before after (base ++ t ∷ []) (nodes (view e.1)) (nodes (view w))) name child) in
     let step = turns_below goal before after base l (key l) mid (nodes (view e.1)) (nodes (view w)) (subst (λ (a : Option Label). NamesStep a l (key l)) (sym root) refl) (subst (λ (q : NodeMap). IsSome (q [])) here refl) here part in
     turns_further goal first before after base (object_map m) mid (mixed (done ++ e ∷ []) (object_map m) (object_map n)) (mixed_root m done (object_map n)) turns
     (turns_as goal before after base mid (mixed (done ++ e ∷ []) (object_map m) (object_map n)) mid (put mid (key l ∷ []) (nodes (view w))) refl (mixed_push done e (object_map m) (object_map n) ∙ ap (put mid (key l ∷ [])) (member_map n l w found)) step)
@@ -68,7 +82,7 @@ member_added m n first before after base done e more k name is ordered turns add
     let c = mixed m.entries (object_map m) (object_map n) in
     let mid = mixed done c (object_map n) in
     let found = entry_found n done e more is ordered in
-    let step = turns_part goal (view e.1) before after base mid (put mid (key l ∷ []) (nodes (view e.1))) (member_sorted n l e.1 found) (turns_add_member before after base l mid (view e.1) (object_label m) (subst (λ (t : Text). AppendsAdd before after (base ++ t ∷ []) (view e.1)) name added)) in
+    let step = turns_part goal (view e.1) before after base mid (put mid (key l ∷ []) (nodes (view e.1))) (member_like n l e.1 found) (turns_add_member before after base l mid (view e.1) (object_label m) (subst (λ (t : Text). AppendsAdd before after (base ++ t ∷ []) (view e.1)) name added)) in
     turns_further goal first before after base c mid (mixed (done ++ e ∷ []) c (object_map n)) (mixed_root m done (object_map n)) turns
     (turns_as goal before after base mid (mixed (done ++ e ∷ []) c (object_map n)) mid (put mid (key l ∷ []) (nodes (view e.1))) refl (mixed_push done e c (object_map n) ∙ ap (put mid (key l ∷ [])) (member_map n l e.1 found)) step)
 

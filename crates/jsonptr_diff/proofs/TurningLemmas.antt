@@ -1,7 +1,7 @@
 -- Operations that are appended to a patch: one after the other, below a step, and from the root.
 use Rattle.std.proofs.Common.{◌≡◌, ℕ, ◌<◌, ◌≤◌, List, [], ◌∷◌, ◌++◌, All, get_or, Option, Some, IsSome, inl, inr, refl, sym, ap, ◌∙◌, subst, arith}
 use Rattle.std.proofs.lemmas.List.Elements.{All-append, All-nil}
-use Rattle.serde_json.specs.Data.{Data, null}
+use Rattle.serde_json.specs.Data.{Data, depth, null}
 use Rattle.serde_json.specs.View.{view}
 use Rattle.jsonptr.specs.Text.{Text, dec}
 use Rattle.jsonptr.specs.Node.{Step, key, place, Path, Label, an_object, an_array, NodeMap, sub, NamesStep, Names}
@@ -19,7 +19,8 @@ use Rattle.jsonptr_patch.specs.Patching.{Patches}
 use Rattle.jsonptr_patch.specs.declared.operation.Operation.{Operation}
 use Rattle.jsonptr_patch.specs.declared.operation.Operation.TheVariants.{Add, Remove, Replace}
 use Rattle.jsonptr_patch.proofs.OperatingLemmas.{patches_push}
-use Rattle.jsonptr_diff.specs.PrivateDiff.{AppendsReplace, AppendsRemove, AppendsAdd, Turns}
+use Rattle.jsonptr_diff.specs.Diff.{HasValueWithin}
+use Rattle.jsonptr_diff.specs.PrivateDiff.{AppendsReplace, AppendsRemove, AppendsAdd, IsLike, Turns}
 
 -- ---- lists
 
@@ -38,6 +39,7 @@ pub turns_nowhere : (goal : Data) (before : List Operation) (base : List Text) (
 turns_nowhere goal before base c d same = record {
   leads = λ n m w done named is. subst (λ (k : NodeMap). Patches n before k) (sym (put-sub m w) ∙ ap (put m w) (sym is ∙ same)) done;
   sorted = λ h all. all;
+  shallow = λ k h all. all;
 }
 
 pub turns_further : (goal : Data) (first then after : List Operation) (base : List Text) (c d e : NodeMap) → IsSome (d []) → Turns goal first then base c d → Turns goal then after base d e → Turns goal first after base c e
@@ -45,6 +47,7 @@ turns_further goal first then after base c d e root one two = record {
   leads = λ n m w done named is. subst (λ (k : NodeMap). Patches n after k) (put-put m w d e)
       (two.leads n (put m w d) w (one.leads n m w done named is) (Names-put m base w d named root) (sym (sub-put m w d)));
   sorted = λ h all. two.sorted h (one.sorted h all);
+  shallow = λ k h all. two.shallow k h (one.shallow k h all);
 }
 
 -- the same of equal maps
@@ -52,13 +55,15 @@ pub turns_as : (goal : Data) (before after : List Operation) (base : List Text) 
 turns_as goal before after base c d e f is to h = record {
   leads = λ n m w done named at. subst (λ (k : NodeMap). Patches n after (put m w k)) (sym to) (h.leads n m w done named (sym is ∙ at));
   sorted = h.sorted;
+  shallow = h.shallow;
 }
 
--- the same for a whole whose keys are sorted only if those of this part are
-pub turns_part : (goal part : Data) (before after : List Operation) (base : List Text) (c d : NodeMap) → (HasSortedKeys goal → HasSortedKeys part) → Turns part before after base c d → Turns goal before after base c d
-turns_part goal part before after base c d has h = record {
+-- the same for a whole of which this is a part
+pub turns_part : (goal part : Data) (before after : List Operation) (base : List Text) (c d : NodeMap) → IsLike goal part → Turns part before after base c d → Turns goal before after base c d
+turns_part goal part before after base c d like h = record {
   leads = h.leads;
-  sorted = λ s all. h.sorted (has s) all;
+  sorted = λ s all. h.sorted (like.sorted s) all;
+  shallow = λ k deep all. h.shallow k (omega (arith, like.shallow, deep)) all;
 }
 
 -- from an empty list, at the root
@@ -67,6 +72,10 @@ turns_patches goal before after c d none some h = h.leads c c [] (subst (λ (os 
 
 pub turns_sorted : (goal : Data) (before after : List Operation) (base : List Text) (c d : NodeMap) → before ≡ [] → HasSortedKeys goal → Turns goal before after base c d → All OperationHasSortedKeys after
 turns_sorted goal before after base c d none s h = h.sorted s (subst (All OperationHasSortedKeys) (sym none) (All-nil OperationHasSortedKeys))
+
+pub turns_shallow : (goal : Data) (before after : List Operation) (base : List Text) (c d : NodeMap) → before ≡ [] → Turns goal before after base c d → All (HasValueWithin (depth goal)) after
+turns_shallow goal before after base c d none h =
+    h.shallow (depth goal) (omega arith) (subst (All (HasValueWithin (depth goal))) (sym none) (All-nil (HasValueWithin (depth goal))))
 
 -- below one step
 pub turns_below : (goal : Data) (before after : List Operation) (base : List Text) (x : Text) (s : Step) (c v d : NodeMap) → NamesStep (c []) x s → IsSome (c (s ∷ [])) → v ≡ sub c (s ∷ []) → Turns goal before after (base ++ x ∷ []) v d → Turns goal before after base c (put c (s ∷ []) d)
@@ -78,6 +87,7 @@ turns_below goal before after base x s c v d step some at h = record {
       (put_below m w (s ∷ []) d ∙ ap (λ (k : NodeMap). put m w (put k (s ∷ []) d)) (sym is))
       (h.leads n m (w ++ s ∷ []) done there (sub-push m c v w s is at));
   sorted = h.sorted;
+  shallow = h.shallow;
 }
 
 -- ---- one operation more
@@ -85,8 +95,8 @@ turns_below goal before after base x s c v d step some at h = record {
 one_more : (n m k : NodeMap) (before after : List Operation) (o : Operation) → after ≡ before ++ o ∷ [] → Patches n before m → Applies m o k → Patches n after k
 one_more n m k before after o is done made = subst (λ (os : List Operation). Patches n os k) (sym is) (patches_push n m k before o done made)
 
-one_sorted : (before after : List Operation) (o : Operation) → after ≡ before ++ o ∷ [] → OperationHasSortedKeys o → All OperationHasSortedKeys before → All OperationHasSortedKeys after
-one_sorted before after o is one all = subst (All OperationHasSortedKeys) (sym is) (all_push OperationHasSortedKeys before o all one)
+all_of : (P : Operation → Type 0) (before after : List Operation) (o : Operation) → after ≡ before ++ o ∷ [] → P o → All P before → All P after
+all_of P before after o is one all = subst (All P) (sym is) (all_push P before o all one)
 
 -- any value there is replaced
 pub turns_replace : (before after : List Operation) (base : List Text) (c : NodeMap) (d : Data) → AppendsReplace before after base d → Turns d before after base c (nodes d)
@@ -96,7 +106,8 @@ turns_replace before after base c d h = record {
     named = subst (λ (ts : List Text). Names m ts w) (sym h.at) named;
     made = ap (λ (e : Data). put m w (nodes e)) (sym h.clone);
   });
-  sorted = λ s all. one_sorted before after (Replace h.path h.value) h.appended (subst HasSortedKeys (sym h.clone) s) all;
+  sorted = λ s all. all_of OperationHasSortedKeys before after (Replace h.path h.value) h.appended (subst HasSortedKeys (sym h.clone) s) all;
+  shallow = λ j deep all. all_of (HasValueWithin j) before after (Replace h.path h.value) h.appended (subst (λ (e : Data). depth e ≤ j) (sym h.clone) deep) all;
 }
 
 module _ (base : List Text) (k : Text) (c m : NodeMap) (w : Path) (named : Names m base w) (is : c ≡ sub m w) (object : c [] ≡ Some an_object) where
@@ -129,7 +140,8 @@ pub turns_remove_member : (goal : Data) (before after : List Operation) (base : 
 turns_remove_member goal before after base k c object some h = record {
   leads = λ n m w done named there. one_more n m (put m w (without_key k c)) before after (Remove h.path) h.appended done
       (subst (λ (ts : List Text). Applies m (Remove ts) (put m w (without_key k c))) (sym h.at) (member_removed base k c m w named there object some));
-  sorted = λ s all. one_sorted before after (Remove h.path) h.appended tt all;
+  sorted = λ s all. all_of OperationHasSortedKeys before after (Remove h.path) h.appended tt all;
+  shallow = λ j deep all. all_of (HasValueWithin j) before after (Remove h.path) h.appended tt all;
 }
 
 -- a member is added to an object
@@ -138,7 +150,8 @@ turns_add_member before after base k c d object h = record {
   leads = λ n m w done named there. one_more n m (put m w (put c (key k ∷ []) (nodes d))) before after (Add h.path h.value) h.appended done
       (subst (λ (ts : List Text). Adds m ts (nodes (view h.value)) (put m w (put c (key k ∷ []) (nodes d)))) (sym h.at)
       (subst (λ (e : Data). Adds m (base ++ k ∷ []) (nodes e) (put m w (put c (key k ∷ []) (nodes d)))) (sym h.clone) (member_added base k c m w named there object (nodes d))));
-  sorted = λ s all. one_sorted before after (Add h.path h.value) h.appended (subst HasSortedKeys (sym h.clone) s) all;
+  sorted = λ s all. all_of OperationHasSortedKeys before after (Add h.path h.value) h.appended (subst HasSortedKeys (sym h.clone) s) all;
+  shallow = λ j deep all. all_of (HasValueWithin j) before after (Add h.path h.value) h.appended (subst (λ (e : Data). depth e ≤ j) (sym h.clone) deep) all;
 }
 
 module _ (base : List Text) (i len : ℕ) (c m : NodeMap) (w : Path) (named : Names m base w) (is : c ≡ sub m w) (array : c [] ≡ Some (an_array len)) where
@@ -170,7 +183,8 @@ pub turns_remove_element : (goal : Data) (before after : List Operation) (base :
 turns_remove_element goal before after base i len c array inside some h = record {
   leads = λ n m w done named there. one_more n m (put m w (without_place i c)) before after (Remove h.path) h.appended done
       (subst (λ (ts : List Text). Applies m (Remove ts) (put m w (without_place i c))) (sym h.at) (element_removed base i len c m w named there array inside some));
-  sorted = λ s all. one_sorted before after (Remove h.path) h.appended tt all;
+  sorted = λ s all. all_of OperationHasSortedKeys before after (Remove h.path) h.appended tt all;
+  shallow = λ j deep all. all_of (HasValueWithin j) before after (Remove h.path) h.appended tt all;
 }
 
 -- an element is inserted into an array
@@ -179,5 +193,6 @@ turns_add_element before after base i len c d array within h = record {
   leads = λ n m w done named there. one_more n m (put m w (with_place i (nodes d) c)) before after (Add h.path h.value) h.appended done
       (subst (λ (ts : List Text). Adds m ts (nodes (view h.value)) (put m w (with_place i (nodes d) c))) (sym h.at)
       (subst (λ (e : Data). Adds m (base ++ dec i ∷ []) (nodes e) (put m w (with_place i (nodes d) c))) (sym h.clone) (element_added base i len c m w named there array (nodes d) within)));
-  sorted = λ s all. one_sorted before after (Add h.path h.value) h.appended (subst HasSortedKeys (sym h.clone) s) all;
+  sorted = λ s all. all_of OperationHasSortedKeys before after (Add h.path h.value) h.appended (subst HasSortedKeys (sym h.clone) s) all;
+  shallow = λ j deep all. all_of (HasValueWithin j) before after (Add h.path h.value) h.appended (subst (λ (e : Data). depth e ≤ j) (sym h.clone) deep) all;
 }

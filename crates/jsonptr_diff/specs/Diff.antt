@@ -1,5 +1,7 @@
 -- Which operations the difference of two documents consists of.
-use Rattle.std.specs.Prelude.{◌≡◌, ℕ, ◌⊎◌, List, [], ◌∷◌, ◌++◌, Option, Some, None, IsSome}
+use Rattle.std.specs.Prelude.{◌≡◌, ℕ, ◌≤◌, ◌⊎◌, List, [], ◌∷◌, ◌++◌, Option, Some, None, IsSome, ⊤}
+use Rattle.serde_json.specs.Data.{depth}
+use Rattle.serde_json.specs.View.{view}
 use Rattle.jsonptr.specs.Text.{Text}
 use Rattle.jsonptr.specs.Node.{key, Path, Label, an_object, an_array, NodeMap, sub}
 use Rattle.jsonptr_patch.specs.declared.operation.Operation.{Operation}
@@ -38,6 +40,13 @@ IsChange n m (Remove path) = DifferAlong n m path × (m (keys path) ≡ None) ×
 IsChange n m (Replace path value) =
     DifferAlong n m path × (AreOfOneKind (n (keys path)) (m (keys path)) → ⊥) × GoesThroughBoth n m path
 IsChange n m o = ⊥
+
+-- `HasValueWithin k o`: the value of the operation `o`, if it has one, nests at most `k` levels deep
+abbrev pub HasValueWithin : ℕ → Operation → Type 0
+HasValueWithin k (Add path value) = depth (view value) ≤ k
+HasValueWithin k (Replace path value) = depth (view value) ≤ k
+HasValueWithin k (Test path value) = depth (view value) ≤ k
+HasValueWithin k o = ⊤
 
 -- `operation_path o`: the tokens of the pointer of the operation `o`
 abbrev pub operation_path : Operation → List Text

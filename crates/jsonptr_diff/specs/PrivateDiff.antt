@@ -7,7 +7,7 @@ use Rattle.std.specs.BTreeMap.{is_at}
 use Rattle.std.specs.Cmp.Lexicographic.{slice_cmp}
 use Rattle.std.specs.Prelude.{string_bytes}
 use Rattle.std.specs.declared.alloc.Global.{Global}
-use Rattle.serde_json.specs.Data.{Data}
+use Rattle.serde_json.specs.Data.{Data, depth}
 use Rattle.serde_json.specs.View.{view}
 use Rattle.serde_json.specs.declared.value.Value.{Value, Array, Object}
 use Rattle.jsonptr.specs.Json.{nodes, HasSortedKeys}
@@ -19,7 +19,7 @@ use Rattle.jsonptr_patch.specs.Patching.{Patches}
 use Rattle.jsonptr_patch.specs.PrivateTesting as tested
 use Rattle.jsonptr_patch.specs.declared.operation.Operation.{Operation}
 use Rattle.jsonptr_patch.specs.declared.operation.Operation.TheVariants.{Add, Remove, Replace}
-use Rattle.jsonptr_diff.specs.Diff.{IsChange}
+use Rattle.jsonptr_diff.specs.Diff.{HasValueWithin, IsChange}
 use Rattle.jsonptr_diff.specs.declared.align.Gap.{Gap}
 use Rattle.jsonptr_diff.specs.declared.trail.Trail.{Trail, Root, Member', Element'}
 
@@ -54,12 +54,19 @@ pub record AppendsAdd (before after : List Operation) (tokens : List Text) (d : 
 
 -- `Turns goal before after base c d`: the operations `before` and then some are `after`. Where `before` leads to a map
 -- in which `base` names a node with the map `c`, `after` leads to the map with `d` there instead. If the keys in
--- `goal` are sorted, so are those in the values of the further operations
+-- `goal` are sorted, so are those in the values of the further operations, none of which nests deeper than `goal`
 pub record Turns (goal : Data) (before after : List Operation) (base : List Text) (c d : NodeMap) : Type 0 where
   pub leads : (n m : NodeMap) (w : Path)
       → Patches n before m → Names m base w → c ≡ sub m w → Patches n after (put m w d)
   pub sorted : HasSortedKeys goal
       → All OperationHasSortedKeys before → All OperationHasSortedKeys after
+  pub shallow : (k : ℕ) → depth goal ≤ k
+      → All (HasValueWithin k) before → All (HasValueWithin k) after
+
+-- `IsLike goal part`: `part` nests no deeper than `goal`, and its keys are sorted if those of `goal` are
+pub record IsLike (goal part : Data) : Type 0 where
+  pub sorted : HasSortedKeys goal → HasSortedKeys part
+  pub shallow : depth part ≤ depth goal
 
 -- `Appends P before after`: `after` is `before` with further operations, each of which meets `P`
 pub record Appends (P : Operation → Type 0) (before after : List Operation) : Type 0 where

@@ -1,12 +1,13 @@
 //! The operations that turn one value into another.
 ghost use Rattle.std.specs.Prelude.{◌≡◌, ◌+◌, ◌≤◌, ℕ, List, [], length, All, IfOk, IsOk, OnErr};
+ghost use Rattle.serde_json.specs.Data.{depth};
 ghost use Rattle.serde_json.specs.View.{view};
 ghost use Rattle.serde_json.specs.declared.value.Value.{Array as an_array, Object as an_object};
 ghost use Rattle.jsonptr.specs.Json.{nodes, HasSortedKeys};
 ghost use Rattle.jsonptr_patch.specs.Order.{OperationHasSortedKeys};
 ghost use Rattle.jsonptr_patch.specs.Patching.{Patches};
 ghost use Rattle.jsonptr_patch.specs.declared.operation.Operation.{Operation as an_operation};
-ghost use Rattle.jsonptr_diff.specs.Diff.{AreOfOneKind, IsChange};
+ghost use Rattle.jsonptr_diff.specs.Diff.{AreOfOneKind, HasValueWithin, IsChange};
 ghost use Rattle.jsonptr_diff.specs.PrivateDiff.{tokens_of, Turns, AppendsChanges, AppendsParts, object_map, mixed, array_map, Splices};
 ghost use Rattle.jsonptr_diff.specs.PrivateSame.{AreSameFrom};
 
@@ -25,11 +26,11 @@ use std::alloc::{AllocError, Global};
 /// Returns a patch that turns `old` into `new`: its operations in order make the node map of `new`
 /// from that of `old` (RFC 6902, sections 4 and 5).
 ///
-/// The patch has additions, removals and replacements only. A member of an object that is the same in
-/// both is in no pointer. No member is added to an object that has it, and none is removed that `new`
-/// has. An object is not replaced by an object, nor an array by an array. As far as objects lead, a
-/// pointer leads through values that are an object in both, or an array in both
-/// ([`change_law`](crate::laws::change::change_law)).
+/// The patch has additions, removals and replacements only. As far as objects lead from the root, a
+/// member that is the same in both is in no pointer; no member is added to an object that has it, and
+/// none is removed that `new` has; an object is not replaced by an object, nor an array by an array;
+/// and a pointer leads through values that are an object in both, or an array in both
+/// ([`change_law`](crate::laws::change::change_law)). Below an element of an array all this is tested.
 ///
 /// - Members that both objects have are followed. The others are removed or added.
 /// - The common suffix of two arrays is left alone, as far as its elements have at most 256 nodes.
@@ -43,7 +44,7 @@ use std::alloc::{AllocError, Global};
 /// `1.0`. Documents that are the same have an empty patch, and need no allocation.
 ///
 /// If the keys of each object in `new` are in ascending order, as in parsed documents, those in the
-/// values of the operations are so as well.
+/// values of the operations are so as well. None of these values nests deeper than `new`.
 ///
 /// Takes time in proportion to both documents where few elements of arrays differ. To align two
 /// arrays, at most 64 elements ahead are searched for the next two that match. Beyond them the
@@ -75,6 +76,8 @@ pub fn diff(alloc: Global, old: &Value, new: &Value) -> Result<Vec<Operation>, A
         All (IsChange (nodes (view old.now)) (nodes (view new.now))) patch.items) }
     ensures sorted { IfOk result (λ patch.
         HasSortedKeys (view new.now) → All OperationHasSortedKeys patch.items) }
+    ensures shallow { IfOk result (λ patch.
+        All (HasValueWithin (depth (view new.now))) patch.items) }
     ensures empty { nodes (view old.now) ≡ nodes (view new.now)
         → IfOk result (λ patch. patch.items ≡ []) }
     ensures no_memory { nodes (view old.now) ≡ nodes (view new.now)

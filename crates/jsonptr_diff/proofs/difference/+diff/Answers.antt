@@ -13,7 +13,7 @@ use Rattle.jsonptr_diff.proofs.SameLemmas.{twin_same, twin_made, object_differs,
 use Rattle.jsonptr_diff.proofs.ChangeLemmas.{ok_both, appends_none, appends_join, changes_replace, object_kind, array_kind, leaf_kind, parts_under, changes_kept, none_of_same}
 use Rattle.jsonptr_diff.proofs.TurningLemmas.{turns_further, turns_replace}
 use Rattle.jsonptr_diff.proofs.MemberLemmas.{mixed_root, members_start, member_turns, member_removed, members_turn, objects_turn, member_changes, member_gone, objects_change}
-use Rattle.jsonptr_diff.proofs.ElementLemmas.{element_read, element_sorted, array_is_array, splices_start, splices_keep, splices_put, splices_at, splices_end, arrays_turn, elements_change, arrays_change, same_from, same_first}
+use Rattle.jsonptr_diff.proofs.ElementLemmas.{element_read, element_like, array_is_array, splices_start, splices_keep, splices_put, splices_at, splices_end, arrays_turn, elements_change, arrays_change, same_from, same_first}
 use Rattle.jsonptr_diff.proofs.difference.+diff.Goals as goal
 use Rattle.jsonptr_diff.proofs.difference.+diff.Goals.{diff_gap-then-gap, diff_gap-else-gap, diff_elements-then-loop-from-test+else-to-new_end, diff_elements-else-loop-from-test}
 
@@ -190,7 +190,7 @@ follow_elements-loop-done-preserved t c = record {
       let here = splices_at whole first c.loop-done.patch.items base old new to from (suc togo + left) to from (suc (togo + left)) refl refl (omega arith) before in
       splices_at whole first c.diff_at.new.patch.items base old new (suc to) (suc from) (togo + left) (c.args.pairs.to + (c.loop-done.done + 1)) (c.args.pairs.from + (c.loop-done.done + 1)) (togo + left) (omega arith) (omega arith) refl
       (splices_put whole (view c.index-in-loop-done.result.now) first c.loop-done.patch.items c.diff_at.new.patch.items base old new to from (togo + left) (length c.args.old.now.items) (nodes (view c.index.result.now)) (nodes (view c.index-in-loop-done.result.now))
-      (element_sorted c.args.pairs.new.now to c.index-in-loop-done.result.now within c.index-in-loop-done.ensures) (array_is_array c.args.old.now) inside
+      (element_like c.args.pairs.new.now to c.index-in-loop-done.result.now within c.index-in-loop-done.ensures) (array_is_array c.args.old.now) inside
       (element_read c.args.old.now from c.index.result.now inside c.index.ensures) (element_read c.args.pairs.new.now to c.index-in-loop-done.result.now within c.index-in-loop-done.ensures)
       here c.in_ok-diff_at.ensures.turns);
   parts = appends_join (IsPartBelow (tokens_of c.args.at.now)) c.args.patch.now.items c.loop-done.patch.items c.diff_at.new.patch.items c.loop-done.invariant.parts (parts_under (tokens_of c.args.at.now) (dec (c.args.pairs.to + c.loop-done.done)) (nodes (view c.index.result.now)) (nodes (view c.index-in-loop-done.result.now)) c.loop-done.patch.items c.diff_at.new.patch.items c.in_ok-diff_at.ensures.changes);

@@ -4,7 +4,7 @@ use Rattle.serde_json.specs.declared.value.Value.{Array}
 use Rattle.jsonptr.specs.Text.{dec}
 use Rattle.jsonptr_diff.specs.PrivateDiff.{tokens_of, IsPartBelow, array_map}
 use Rattle.jsonptr_diff.proofs.ChangeLemmas.{appends_none, appends_join, parts_add}
-use Rattle.jsonptr_diff.proofs.ElementLemmas.{element_read, element_sorted, splices_more, splices_at}
+use Rattle.jsonptr_diff.proofs.ElementLemmas.{element_read, element_like, splices_more, splices_at}
 use Rattle.jsonptr_diff.proofs.elements.add_elements.Goals as goal
 
 pub loop-index-init : goal.loop-index-init
@@ -20,7 +20,7 @@ loop-index-preserved c = record {
       let inside : c.loop-index.index < length c.args.new.now.items = omega (arith, c.loop-index-test.true, c.requires.within) in
       splices_at (view (Array c.args.new.now)) first c.add.new.patch.items (tokens_of c.args.at.now) d (array_map c.args.new.now) (suc c.loop-index.index) k left (c.loop-index.index + 1) k left (omega arith) refl refl
       (splices_more (view (Array c.args.new.now)) (view c.index.result.now) first c.loop-index.patch.items c.add.new.patch.items (tokens_of c.args.at.now) d (array_map c.args.new.now) c.loop-index.index k left
-      (element_sorted c.args.new.now c.loop-index.index c.index.result.now inside c.index.ensures)
+      (element_like c.args.new.now c.loop-index.index c.index.result.now inside c.index.ensures)
       (element_read c.args.new.now c.loop-index.index c.index.result.now inside c.index.ensures) (c.loop-index.invariant.splices first d k left s) c.in_ok-add.ensures);
   parts = appends_join (IsPartBelow (tokens_of c.args.at.now)) c.args.patch.now.items c.loop-index.patch.items c.add.new.patch.items c.loop-index.invariant.parts (parts_add (tokens_of c.args.at.now) (dec c.loop-index.index) (view c.index.result.now) c.loop-index.patch.items c.add.new.patch.items c.in_ok-add.ensures);
   kept = λ e. absurd (omega (arith, e, c.loop-index.auto.index));
