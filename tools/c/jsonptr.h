@@ -87,13 +87,10 @@
  *             nor in a process that was forked while another thread was in a call.
  * Never       The library never prints, exits, aborts or waits.
  * Tested      What a call returns is proved, except for what docs/PROVED.md of
- *             the project lists as tested: among it `*length` where the result
- *             fills the buffer; what an error leaves in `*node`, `*found` and
- *             `*count`; `number` of a node; which numbers that are read as
- *             doubles lose digits, so that 1.10 does not; which patch
- *             jsonptr_document_diff makes, and when a patch that takes another
- *             back nests too deep; which bytes that read as a value are located,
- *             and that the value at an offset is the innermost one.
+ *             the project lists as tested: among it which numbers that are read
+ *             as doubles lose digits, so that 1.10 does not; when a patch that
+ *             takes another back nests too deep; which bytes that read as a value
+ *             are located, and that the value at an offset is the innermost one.
  *
  * WHAT THE CALLER MUST UPHOLD
  *

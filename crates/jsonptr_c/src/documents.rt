@@ -1,5 +1,5 @@
 //! Documents.
-ghost use Rattle.std.specs.Prelude.{◌≡◌, ◌≢◌, ◌⊎◌, [], IsFalse, IsTrue, Some, take, length as list_length};
+ghost use Rattle.std.specs.Prelude.{◌≡◌, ◌≢◌, ◌≤◌, ◌⊎◌, [], IsFalse, IsTrue, Some, take, length as list_length};
 ghost use Rattle.serde_json.specs.Read.{read as read_text};
 ghost use Rattle.serde_json.specs.View.{view};
 ghost use Rattle.serde_json.specs.declared.value.Value.{Value};
@@ -110,6 +110,7 @@ pub extern "C" fn jsonptrcore_document_get(
     ensures no_error { result ≡ 0 → error.new ≡ no_error }
     ensures printed { result ≡ 0 → HoldsWith document.old
         (λ v. FindsTextOf (format_of is_pretty) (view v) pointer.now (take length.new out.new)) }
+    ensures fits { result ≡ 0 → length.new ≤ list_length out.new }
     ensures refused { result ≢ 0 → (e : CallError) × Reports e pointer.now result error.new
         × FailsOnHandle document.old
         (λ v. IsNotPrinted (format_of is_pretty) (view v) pointer.now (list_length out.old) e) e }
@@ -139,6 +140,7 @@ pub extern "C" fn jsonptrcore_document_string(
     ensures no_error { result ≡ 0 → error.new ≡ no_error }
     ensures string { result ≡ 0 → HoldsWith document.old
         (λ v. FindsString (view v) pointer.now (take length.new out.new)) }
+    ensures fits { result ≡ 0 → length.new ≤ list_length out.new }
     ensures refused { result ≢ 0 → (e : CallError) × Reports e pointer.now result error.new
         × FailsOnHandle document.old
         (λ v. IsNotRead (view v) pointer.now (list_length out.old) e) e }
@@ -169,6 +171,7 @@ pub extern "C" fn jsonptrcore_document_node(
         (λ v. FindsNode (view v) pointer.now node.new) }
     ensures refused { result ≢ 0 → (e : CallError) × Reports e pointer.now result error.new
         × FailsOnHandle document.old (λ v. Unfound (view v) pointer.now e) e }
+    ensures node_unchanged { result ≢ 0 → node.new ≡ node.old }
     ensures unchanged { Keeps document.old document.new }
 {
     match documents::node(alloc, document, pointer) {
@@ -220,6 +223,7 @@ pub extern "C" fn jsonptrcore_document_delete(
         → Changes document.old (λ d n. IsBounded d → IsBounded n) document.new }
     ensures refused { result ≢ 0 → (e : CallError) × Reports e pointer.now result error.new
         × FailsOnHandle document.old (λ v. IsNotDeleted pointer.now e) e }
+    ensures found_unchanged { result ≢ 0 → found.new ≡ found.old }
     ensures unchanged { result ≢ 0 → Keeps document.old document.new }
 {
     match documents::delete(alloc, document, pointer) {
@@ -272,6 +276,7 @@ pub extern "C" fn jsonptrcore_document_patch_with_inverse(
         document.new }
     ensures bounded { result ≡ 0
         → Changes document.old (λ d n. IsBounded d → IsBounded n) document.new }
+    ensures fits { result ≡ 0 → length.new ≤ list_length out.new }
     ensures refused { result ≢ 0 → (e : CallError) × Reports e [] result error.new
         × (IsNotPatchText text.now e ⊎ IsNotAppliedWithInverse (format_of is_pretty) text.now
         document.old (list_length out.old) e) }
@@ -302,6 +307,7 @@ pub extern "C" fn jsonptrcore_document_diff(
     ensures no_error { result ≡ 0 → error.new ≡ no_error }
     ensures differing { result ≡ 0 → HoldsWith old.old (λ v. HoldsWith new.old
         (λ w. IsDiffText (format_of is_pretty) (view v) (view w) (take length.new out.new))) }
+    ensures fits { result ≡ 0 → length.new ≤ list_length out.new }
     ensures refused { result ≢ 0 → (e : CallError) × Reports e [] result error.new
         × FailsOnHandle old.old (λ v. FailsOnHandle new.old
         (λ w. IsNotCompared (format_of is_pretty) (view v) (view w) (list_length out.old) e) e) e }
@@ -333,6 +339,7 @@ pub extern "C" fn jsonptrcore_resolve_in_text(
     ensures no_error { result ≡ 0 → error.new ≡ no_error }
     ensures printed { result ≡ 0
         → FindsTextIn (format_of is_pretty) text.now pointer.now (take length.new out.new) }
+    ensures fits { result ≡ 0 → length.new ≤ list_length out.new }
     ensures refused { result ≢ 0 → (e : CallError) × Reports e pointer.now result error.new
         × IsNotPrintedFrom (format_of is_pretty) text.now pointer.now (list_length out.old) e }
     ensures output_unchanged { result ≢ 0 → out.new ≡ out.old }
@@ -361,7 +368,8 @@ pub extern "C" fn jsonptrcore_lost_number_in_text(
     ensures no_error { result ≡ 0 → error.new ≡ no_error }
     ensures pointer { result ≡ 0 → IsTrue found.new
         → (lost : Lost) × Loses text.now lost × PointsTo (take length.new out.new) lost }
-    ensures none { result ≡ 0 → IsFalse found.new → KeepsDigits text.now }
+    ensures none { result ≡ 0 → IsFalse found.new → KeepsDigits text.now × (length.new ≡ 0) }
+    ensures fits { result ≡ 0 → length.new ≤ list_length out.new }
     ensures refused { result ≢ 0 → (e : CallError) × Reports e [] result error.new
         × IsNotPointedTo text.now (list_length out.old) e }
     ensures output_unchanged { result ≢ 0 → out.new ≡ out.old }

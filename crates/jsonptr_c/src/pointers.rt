@@ -1,5 +1,5 @@
 //! JSON Pointers.
-ghost use Rattle.std.specs.Prelude.{◌≡◌, ◌≢◌, [], take, length as list_length};
+ghost use Rattle.std.specs.Prelude.{◌≡◌, ◌≢◌, ◌≤◌, [], take, length as list_length};
 ghost use Rattle.jsonptr.specs.Text.{esc};
 ghost use Rattle.jsonptr_c_calls.specs.Failures.{IsNoPointer, IsNoToken, IsNotEscaped, IsNotPopped, IsNotPushed};
 ghost use Rattle.jsonptr_c_calls.specs.Outcomes.{IsLengthOf, Reports};
@@ -23,6 +23,7 @@ pub extern "C" fn jsonptrcore_pointer_count(
     ensures count { result ≡ 0 → HasCount pointer.now count.new }
     ensures refused { result ≢ 0 → (e : CallError) × Reports e pointer.now result error.new
         × IsNoPointer pointer.now e }
+    ensures count_unchanged { result ≢ 0 → count.new ≡ count.old }
 {
     match pointers::count(pointer) {
         Ok(found) => {
@@ -45,6 +46,7 @@ pub extern "C" fn jsonptrcore_pointer_token(
 ) -> u32
     ensures no_error { result ≡ 0 → error.new ≡ no_error }
     ensures token { result ≡ 0 → HasToken pointer.now position (take length.new out.new) }
+    ensures fits { result ≡ 0 → length.new ≤ list_length out.new }
     ensures refused { result ≢ 0 → (e : CallError) × Reports e pointer.now result error.new
         × IsNoToken pointer.now position (list_length out.old) e }
     ensures output_unchanged { result ≢ 0 → out.new ≡ out.old }
@@ -70,6 +72,7 @@ pub extern "C" fn jsonptrcore_pointer_escape(
 ) -> u32
     ensures no_error { result ≡ 0 → error.new ≡ no_error }
     ensures escaped { result ≡ 0 → take length.new out.new ≡ esc token.now }
+    ensures fits { result ≡ 0 → length.new ≤ list_length out.new }
     ensures refused { result ≢ 0 → (e : CallError) × Reports e [] result error.new
         × IsNotEscaped token.now (list_length out.old) e }
     ensures output_unchanged { result ≢ 0 → out.new ≡ out.old }
@@ -97,6 +100,7 @@ pub extern "C" fn jsonptrcore_pointer_push(
     ensures no_error { result ≡ 0 → error.new ≡ no_error }
     ensures pushed { result ≡ 0
         → Extends (take length.old buffer.old) token.now (take length.new buffer.new) }
+    ensures fits { result ≡ 0 → length.new ≤ list_length buffer.new }
     ensures refused { result ≢ 0 → (e : CallError)
         × Reports e (take length.old buffer.old) result error.new
         × IsNotPushed length.old buffer.old token.now e }

@@ -1,7 +1,8 @@
 -- What a value is, and the number in it.
-use Rattle.std.specs.Prelude.{◌≡◌, ℕ, List, is_some, unwrap_or, option_and_then, false, pos}
+use Rattle.std.specs.Prelude.{◌≡◌, ℕ, List, is_some, unwrap_or, option_and_then, option_map, false, pos}
+use lib.Ieee.{fin}
 use Rattle.serde_json.specs.Data.{Data}
-use Rattle.serde_json.specs.Find.{as_bool, as_number, as_i64, as_u64}
+use Rattle.serde_json.specs.Find.{as_bool, as_number, as_i64, as_u64, to_float}
 use Rattle.jsonptr_c_calls.specs.NodeTypes.{type_number, length_or_zero, byte_length_of}
 use Rattle.jsonptr_value.specs.NodeTypes.{type_of, length_of}
 use Rattle.jsonptr_c_calls.specs.Values.{FindsAtPointer}
@@ -15,6 +16,7 @@ pub record Describes (d : Data) (node : NodeInfo) : Type 0 where
   pub integer : node.integer ≡ unwrap_or (option_and_then as_i64 (as_number d)) (pos 0)
   pub has_natural : node.has_natural ≡ is_some (option_and_then as_u64 (as_number d))
   pub natural : node.natural ≡ unwrap_or (option_and_then as_u64 (as_number d)) 0
+  pub number : node.number ≡ unwrap_or (option_map to_float (as_number d)) (fin false 0 (pos 0))
   pub length : node.length ≡ length_or_zero (length_of d)
   pub byte_length : node.byte_length ≡ byte_length_of d
   pub reserved : node.reserved ≡ 0

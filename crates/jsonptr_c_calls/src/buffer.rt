@@ -1,5 +1,5 @@
 //! Results that are copied to a buffer of the caller.
-ghost use Rattle.std.specs.Prelude.{◌≡◌, MatchResult, take, length};
+ghost use Rattle.std.specs.Prelude.{◌≡◌, ◌≤◌, MatchResult, take, length};
 ghost use Rattle.jsonptr_c_calls.specs.Failures.{LacksRoom};
 
 use crate::call_error::CallError;
@@ -11,7 +11,7 @@ use crate::call_error::CallError;
 /// [`CallError::NoRoom`] if the buffer is shorter than the text. It is unchanged.
 pub fn copy_to(text: &[u8], out: &mut [u8]) -> Result<usize, CallError>
     ensures copied { MatchResult result
-        (λ n. (n ≡ length text.now) × (take n out.new ≡ text.now))
+        (λ n. (n ≡ length text.now) × (n ≤ length out.new) × (take n out.new ≡ text.now))
         (λ e. LacksRoom (length text.now) (length out.old) e × (out.new ≡ out.old)) }
 {
     if text.len() > out.len() {

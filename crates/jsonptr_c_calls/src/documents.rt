@@ -1,5 +1,5 @@
 //! Documents in a handle.
-ghost use Rattle.std.specs.Prelude.{◌≡◌, ◌⊎◌, IfErr, IfOk, OnErr, OnOk, Some, length, take};
+ghost use Rattle.std.specs.Prelude.{◌≡◌, ◌≤◌, ◌⊎◌, IfErr, IfOk, OnErr, OnOk, Some, length, take};
 ghost use Rattle.serde_json.specs.Read.{read as read_text};
 ghost use Rattle.serde_json.specs.View.{view};
 ghost use Rattle.serde_json.specs.declared.value.Value.{Value as JsonValue};
@@ -124,6 +124,7 @@ pub fn get(
 ) -> Result<usize, CallError>
     ensures printed { IfOk result (λ n.
         HoldsWith document.old (λ v. FindsTextOf format (view v) pointer.now (take n out.new))) }
+    ensures fits { IfOk result (λ n. n ≤ length out.new) }
     ensures refused { IfErr result (λ e.
         FailsOnHandle document.old (λ v. IsNotPrinted format (view v) pointer.now (length out.old) e) e) }
     ensures output_unchanged { OnErr result (out.new ≡ out.old) }
@@ -162,6 +163,7 @@ pub fn string(
 ) -> Result<usize, CallError>
     ensures string { IfOk result (λ n.
         HoldsWith document.old (λ v. FindsString (view v) pointer.now (take n out.new))) }
+    ensures fits { IfOk result (λ n. n ≤ length out.new) }
     ensures refused { IfErr result (λ e.
         FailsOnHandle document.old (λ v. IsNotRead (view v) pointer.now (length out.old) e) e) }
     ensures output_unchanged { OnErr result (out.new ≡ out.old) }
@@ -359,6 +361,7 @@ pub fn patch_with_inverse(
         (λ d m. AppliesWithInverse format text.now d m (take n out.new)) document.new) }
     ensures bounded { IfOk result (λ _.
         Changes document.old (λ d n. IsBounded d → IsBounded n) document.new) }
+    ensures fits { IfOk result (λ n. n ≤ length out.new) }
     ensures refused { IfErr result (λ e. IsNotPatchText text.now e
         ⊎ IsNotAppliedWithInverse format text.now document.old (length out.old) e) }
     ensures output_unchanged { OnErr result (out.new ≡ out.old) }
@@ -393,6 +396,7 @@ fn put_patched(
     requires { IsEmpty document.old }
     ensures copied { IfOk result (λ n. take n out.new ≡ made.inverse.items) }
     ensures replaced { OnOk result (Holds document.new made.document) }
+    ensures fits { IfOk result (λ n. n ≤ length out.new) }
     ensures refused { IfErr result (LacksRoom (length made.inverse.items) (length out.old)) }
     ensures output_unchanged { OnErr result (out.new ≡ out.old) }
     ensures unchanged { OnErr result (Holds document.new old.value) }
@@ -435,6 +439,7 @@ pub fn diff(
 ) -> Result<usize, CallError>
     ensures differing { IfOk result (λ n. HoldsWith old.old (λ v.
         HoldsWith new.old (λ w. IsDiffText format (view v) (view w) (take n out.new)))) }
+    ensures fits { IfOk result (λ n. n ≤ length out.new) }
     ensures refused { IfErr result (λ e. FailsOnHandle old.old
         (λ v. FailsOnHandle new.old
         (λ w. IsNotCompared format (view v) (view w) (length out.old) e) e) e) }
@@ -465,6 +470,7 @@ fn diff_with(
 ) -> Result<usize, CallError>
     ensures differing { IfOk result (λ n.
         HoldsWith new.old (λ w. IsDiffText format (view old.now) (view w) (take n out.new))) }
+    ensures fits { IfOk result (λ n. n ≤ length out.new) }
     ensures refused { IfErr result (λ e.
         FailsOnHandle new.old
         (λ w. IsNotCompared format (view old.now) (view w) (length out.old) e) e) }

@@ -1,5 +1,5 @@
 //! Where values are in a JSON text that is not read into a document.
-ghost use Rattle.std.specs.Prelude.{◌≡◌, IfErr, IfOk, List, OnErr, length, take};
+ghost use Rattle.std.specs.Prelude.{◌≡◌, ◌≤◌, IfErr, IfOk, List, OnErr, length, take};
 ghost use Rattle.jsonptr.specs.Text.{Text};
 ghost use Rattle.jsonptr_edit_in_text.specs.Locating.{IsLocateError};
 ghost use Rattle.jsonptr_c_calls.specs.Locations.{IsNotLocated, IsNotPointedAt, LacksLocation, LocatesInText, PointsAt};
@@ -82,6 +82,7 @@ pub fn pointer_at(
     out: &mut [u8],
 ) -> Result<usize, CallError>
     ensures pointed { IfOk result (λ n. PointsAt text.now offset (take n out.new)) }
+    ensures fits { IfOk result (λ n. n ≤ length out.new) }
     ensures refused { IfErr result (IsNotPointedAt text.now offset (length out.old)) }
     ensures output_unchanged { OnErr result (out.new ≡ out.old) }
 {

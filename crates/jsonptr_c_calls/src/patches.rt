@@ -1,5 +1,5 @@
 //! JSON Patch documents (RFC 6902) as bytes.
-ghost use Rattle.std.specs.Prelude.{◌≡◌, ◌⊎◌, ◌<◌, IfErr, IfOk, IsUtf8, OnErr, OnOk, All, length, take};
+ghost use Rattle.std.specs.Prelude.{◌≡◌, ◌≤◌, ◌⊎◌, ◌<◌, IfErr, IfOk, IsUtf8, OnErr, OnOk, All, length, take};
 ghost use Rattle.serde_json.specs.Data.{depth};
 ghost use Rattle.serde_json.specs.Read.{max_depth};
 ghost use Rattle.serde_json.specs.View.{view};
@@ -159,6 +159,7 @@ pub fn write_patched(
 ) -> Result<usize, CallError>
     ensures copied { IfOk result (λ n. take n out.new ≡ made.inverse.items) }
     ensures replaced { OnOk result (document.new ≡ made.document) }
+    ensures fits { IfOk result (λ n. n ≤ length out.new) }
     ensures refused { IfErr result (LacksRoom (length made.inverse.items) (length out.old)) }
     ensures output_unchanged { OnErr result (out.new ≡ out.old) }
     ensures unchanged { OnErr result (document.new ≡ document.old) }
@@ -209,6 +210,7 @@ pub fn diff_text(
 ) -> Result<usize, CallError>
     ensures differing { IfOk result (λ n.
         IsDiffText format (view old.now) (view new.now) (take n out.new)) }
+    ensures fits { IfOk result (λ n. n ≤ length out.new) }
     ensures refused { IfErr result
         (IsNotCompared format (view old.now) (view new.now) (length out.old)) }
     ensures output_unchanged { OnErr result (out.new ≡ out.old) }

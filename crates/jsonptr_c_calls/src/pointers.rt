@@ -1,5 +1,5 @@
 //! JSON Pointers (RFC 6901) as bytes.
-ghost use Rattle.std.specs.Prelude.{◌≡◌, IfErr, IfOk, IsUtf8, OnErr, OnOk, take, length as list_length};
+ghost use Rattle.std.specs.Prelude.{◌≡◌, ◌≤◌, IfErr, IfOk, IsUtf8, OnErr, OnOk, take, length as list_length};
 ghost use Rattle.jsonptr.specs.Pointer.{tokens};
 ghost use Rattle.jsonptr.specs.Text.{text, esc};
 ghost use Rattle.jsonptr_c_calls.specs.Failures.{IsNotUtf8, IsNoPointer, IsNoToken, IsNotEscaped, IsNotExtended, IsNotPushed, IsNotPopped};
@@ -98,6 +98,7 @@ pub fn token(
     out: &mut [u8],
 ) -> Result<usize, CallError>
     ensures token { IfOk result (λ n. HasToken pointer.now position (take n out.new)) }
+    ensures fits { IfOk result (λ n. n ≤ list_length out.new) }
     ensures refused { IfErr result (IsNoToken pointer.now position (list_length out.old)) }
     ensures output_unchanged { OnErr result (out.new ≡ out.old) }
 {
@@ -125,6 +126,7 @@ pub fn token(
 /// ```
 pub fn escape(alloc: Global, token: &[u8], out: &mut [u8]) -> Result<usize, CallError>
     ensures escaped { IfOk result (λ n. take n out.new ≡ esc token.now) }
+    ensures fits { IfOk result (λ n. n ≤ list_length out.new) }
     ensures refused { IfErr result (IsNotEscaped token.now (list_length out.old)) }
     ensures output_unchanged { OnErr result (out.new ≡ out.old) }
 {
@@ -158,6 +160,7 @@ pub fn push(
 ) -> Result<usize, CallError>
     ensures pushed { IfOk result (λ n.
         Extends (take length buffer.old) token.now (take n buffer.new)) }
+    ensures fits { IfOk result (λ n. n ≤ list_length buffer.new) }
     ensures refused { IfErr result
         (IsNotPushed length buffer.old token.now) }
     ensures unchanged { OnErr result (buffer.new ≡ buffer.old) }

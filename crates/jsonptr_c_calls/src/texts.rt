@@ -1,5 +1,5 @@
 //! Calls on a JSON text.
-ghost use Rattle.std.specs.Prelude.{◌≡◌, IfErr, IfOk, IsUtf8, MatchOption, OnErr, OnOk, length, take};
+ghost use Rattle.std.specs.Prelude.{◌≡◌, ◌≤◌, IfErr, IfOk, IfSome, IsUtf8, MatchOption, OnErr, OnOk, length, take};
 ghost use Rattle.jsonptr_numbers.specs.Digits.{KeepsDigits};
 ghost use Rattle.jsonptr_numbers.specs.Lost.{Loses};
 ghost use Rattle.jsonptr_numbers.specs.declared.lost.Lost.{Lost as SpecLost};
@@ -73,6 +73,7 @@ pub fn resolve(
     out: &mut [u8],
 ) -> Result<usize, CallError>
     ensures printed { IfOk result (λ n. FindsTextIn format text.now pointer.now (take n out.new)) }
+    ensures fits { IfOk result (λ n. n ≤ length out.new) }
     ensures refused { IfErr result (IsNotPrintedFrom format text.now pointer.now (length out.old)) }
     ensures output_unchanged { OnErr result (out.new ≡ out.old) }
 {
@@ -106,6 +107,7 @@ pub fn resolve(
 pub fn lost_number(alloc: Global, text: &[u8], out: &mut [u8]) -> Result<Option<usize>, CallError>
     ensures found { IfOk result (λ o. MatchOption o (KeepsDigits text.now)
         (λ n. (lost : SpecLost) × Loses text.now lost × PointsTo (take n out.new) lost)) }
+    ensures fits { IfOk result (λ o. IfSome o (λ n. n ≤ length out.new)) }
     ensures utf8 { OnOk result (IsUtf8 text.now) }
     ensures refused { IfErr result (IsNotPointedTo text.now (length out.old)) }
     ensures output_unchanged { OnErr result (out.new ≡ out.old) }
@@ -125,6 +127,7 @@ pub fn lost_number(alloc: Global, text: &[u8], out: &mut [u8]) -> Result<Option<
 /// The buffer is unchanged.
 fn copy_pointer(lost: Lost, out: &mut [u8]) -> Result<usize, CallError>
     ensures copied { IfOk result (λ n. PointsTo (take n out.new) lost) }
+    ensures fits { IfOk result (λ n. n ≤ length out.new) }
     ensures refused { IfErr result (LacksPointerOfNumber lost (length out.old)) }
     ensures output_unchanged { OnErr result (out.new ≡ out.old) }
 {

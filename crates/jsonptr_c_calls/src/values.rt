@@ -1,5 +1,5 @@
 //! Values of a document.
-ghost use Rattle.std.specs.Prelude.{◌≡◌, IfErr, IfOk, IsUtf8, OnErr, OnOk, take, length};
+ghost use Rattle.std.specs.Prelude.{◌≡◌, ◌≤◌, IfErr, IfOk, IsUtf8, OnErr, OnOk, take, length};
 ghost use Rattle.serde_json.specs.View.{view};
 ghost use Rattle.jsonptr_c_calls.specs.Failures.{Unfound, IsNotPrinted, IsNotRead};
 ghost use Rattle.jsonptr_c_calls.specs.Values.{FindsAtPointer, IsJsonText, FindsTextOf, FindsString};
@@ -61,6 +61,7 @@ pub fn get(
 ) -> Result<usize, CallError>
     ensures printed { IfOk result (λ n.
         FindsTextOf format (view document.now) pointer.now (take n out.new)) }
+    ensures fits { IfOk result (λ n. n ≤ length out.new) }
     ensures refused { IfErr result
         (IsNotPrinted format (view document.now) pointer.now (length out.old)) }
     ensures output_unchanged { OnErr result (out.new ≡ out.old) }
@@ -87,6 +88,7 @@ pub fn string(
 ) -> Result<usize, CallError>
     ensures string { IfOk result (λ n.
         FindsString (view document.now) pointer.now (take n out.new)) }
+    ensures fits { IfOk result (λ n. n ≤ length out.new) }
     ensures refused { IfErr result (IsNotRead (view document.now) pointer.now (length out.old)) }
     ensures output_unchanged { OnErr result (out.new ≡ out.old) }
 {
