@@ -95,8 +95,8 @@ pub enum Replaced<E: Drop> {
 ///
 /// # Errors
 ///
-/// That of the first call that fails, up to the rename. The file has the old text, and the temporary
-/// file is removed.
+/// That of the first call that fails, up to the rename. The file has the old text. That the temporary
+/// file is removed then, and whose error it is, is tested.
 ///
 /// # Conditions
 ///

@@ -33,7 +33,8 @@ IsNotLocated t bytes e =
     ⊎ ((tokens : List Text) × ParsesTo bytes tokens
     × (IsNotUtf8 argument.Text t e ⊎ (IsUtf8 t × LacksLocation t tokens e)))
 
--- `PointsAt t k bytes`: `bytes` are the pointer of a value of `t`, and the byte of `t` at the offset `k` is one of its text
+-- `PointsAt t k bytes`: `bytes` are the pointer of a value of `t`, and the byte of `t` at the offset `k` is one of some that
+-- read as it
 abbrev pub PointsAt : List ℕ → ℕ → List ℕ → Type 0
 PointsAt t k bytes =
     (tokens : List Text) × (before piece after : Text) × HasTokens bytes tokens

@@ -54,8 +54,9 @@ pub fn locate(alloc: Global, text: &[u8], pointer: &[u8]) -> Result<TextSpan, Ca
 }
 
 /// Copies the pointer of the value whose text contains the byte at the offset to the buffer, and
-/// returns its length. Of all such values it is the innermost one, which is tested. In a member whose
-/// key comes again it is a value around that member.
+/// returns its length. In a member whose key comes again it is a value around that member. That bytes
+/// around the offset read as the value is proved. That they are its own, and that it is the innermost
+/// one, is tested.
 ///
 /// # Errors
 ///

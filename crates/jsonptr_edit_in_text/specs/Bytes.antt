@@ -20,8 +20,8 @@ use Rattle.jsonptr_edit_in_text.specs.declared.edited.Edited.TheVariants.{InPlac
 abbrev pub IsScalar : Data → Type 0
 IsScalar d = (a : Scalar) × (label_of (content d) ≡ a_leaf a)
 
--- `ReplacesBytes old new tokens e`: `new` is the text `old` with exactly the text of the value that all of `tokens`
--- identify replaced by exactly a text of the value `e`. Neither has white space around it
+-- `ReplacesBytes old new tokens e`: `new` is the text `old` with a part that reads as the value that all of `tokens`
+-- identify replaced by a text of the value `e`. Neither has white space around it
 pub record ReplacesBytes (old new : Text) (tokens : List Text) (e : Data) : Type 0 where
   pub middle : Text
   pub piece : Text

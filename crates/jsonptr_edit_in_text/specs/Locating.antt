@@ -22,12 +22,12 @@ pub record IsLocated (text : Text) (tokens : List Text) (before piece after : Te
 abbrev pub Contains : Text → Text → ℕ → Type 0
 Contains before piece k = (length before ≤ k) × (k < length before + length piece)
 
--- `IsLocatedAt text k tokens before piece after`: the bytes of the value that `tokens` identify are `piece`, and the byte of
--- `text` at the offset `k` is one of them
+-- `IsLocatedAt text k tokens before piece after`: `piece` reads as the value that `tokens` identify, and the byte of `text` at
+-- the offset `k` is one of its bytes
 abbrev pub IsLocatedAt : Text → ℕ → List Text → Text → Text → Text → Type 0
 IsLocatedAt text k tokens before piece after = IsLocated text tokens before piece after × Contains before piece k
 
--- `IsOutside text k`: the byte of `text` at the offset `k` is none of the document's
+-- `IsOutside text k`: the byte of `text` at the offset `k` is none of some bytes that read as the document
 abbrev pub IsOutside : Text → ℕ → Type 0
 IsOutside text k = (before piece after : Text) × IsLocated text [] before piece after × (Contains before piece k → ⊥)
 

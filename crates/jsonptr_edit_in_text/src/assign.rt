@@ -112,10 +112,10 @@ pub fn assign_in_text_with(
 /// Assigns the value at the pointer in the document that the text contains, as
 /// [`assign_in_text_with`] does, with the value's own text.
 ///
-/// What is put into the text has the tokens of the value's text, one for one: its members in their
-/// order, and its numbers as they are written. Where the value is expanded by tokens that name nothing
-/// yet, the arrays and objects that are made are around them. Only a document that is
-/// [`Rewritten`](Edited::Rewritten) has the value printed.
+/// In place, a part of the new text has the tokens of the value's text, one for one: its members in
+/// their order, and its numbers as they are written. That this part is what the pointer leads to is
+/// tested. Where the value is expanded by tokens that name nothing yet, the arrays and objects that are
+/// made are around it. Only a document that is [`Rewritten`](Edited::Rewritten) has the value printed.
 ///
 /// # Errors
 ///

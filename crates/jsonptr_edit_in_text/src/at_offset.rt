@@ -27,7 +27,8 @@ pub struct PointerAt<'t> {
 /// value is one around that member, perhaps the whole document.
 ///
 /// Reads the text up to the offset, and twice for each value that is looked at: as a rule one or two.
-/// That the value contains the byte is proved, and that it is the innermost one is tested.
+/// That bytes around the offset read as the value is proved. That they are its own, and that it is the
+/// innermost one, is tested.
 ///
 /// # Errors
 ///

@@ -44,7 +44,8 @@ impl From<ReadError> for IndentError {
 /// # Errors
 ///
 /// - [`IndentError::NotJson`] if `serde_json` does not read the text.
-/// - [`IndentError::NotWhiteSpace`] if the indentation is not white space, and a line has one.
+/// - [`IndentError::NotWhiteSpace`] if the indentation is not white space, and a line has one: that a
+///   line has one is tested.
 /// - [`IndentError::Memory`] if an allocation fails.
 ///
 /// # Examples

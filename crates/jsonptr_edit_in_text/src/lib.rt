@@ -20,8 +20,9 @@
 //!
 //! - *Meaning*: the new text reads as the document that the call on documents makes of the document
 //!   that the old text reads as.
-//! - *Bytes*: replacing a value changes exactly its own bytes. Adding a child replaces only white space.
-//!   Removing a child also removes at most one comma and the white space beside it.
+//! - *Bytes*: one piece changes. It reads as the value that is replaced, or it is one child that is
+//!   added or removed, with white space and at most one comma beside it. That it begins and ends between
+//!   tokens, and is that value's own text, is tested.
 //!
 //! To edit many texts keep one [`Buffers`], and pass it to each call that takes one: it keeps its
 //! memory from text to text.

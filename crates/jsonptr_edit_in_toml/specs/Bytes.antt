@@ -35,8 +35,8 @@ HoldsAlone ks v t =
     (d : Data) × ReadsAsToml t d
     × ((replaced : Option NodeMap) × Assigns (nodes (table no_members)) ks (nodes v) (nodes d) replaced)
 
--- `IsAlone ts v t`: the text `t`, alone, is a text of the value `v`; or pairs and headers that hold `v` and nothing
--- else, at keys that end as the tokens `ts` do
+-- `IsAlone ts v t`: the text `t`, alone, is a text of the value `v`; or pairs and headers that hold `v` alone, at keys
+-- that end as the tokens `ts` do, with what is read away: comments and blank lines
 abbrev pub IsAlone : List Text → Data → Text → Type 0
 IsAlone ts v t = (parse_value t ≡ Some v) ⊎ ((ks : List Text) × EndsAs ts ks × HoldsAlone ks v t)
 

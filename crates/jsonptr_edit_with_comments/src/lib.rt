@@ -1,4 +1,4 @@
-//! Edits of JSON text with comments and trailing commas, in place: the comments stay.
+//! Edits of JSON text with comments and trailing commas, in place.
 //!
 //! ```rust
 //! let text = "{\n  \"size\": 3, // px\n}\n";
@@ -14,10 +14,9 @@
 //! - [`assign_raw_with_comments`] and [`apply_raw_with_comments`] bring values with their own texts.
 //!
 //! Each call makes two promises. *Meaning*: without its comments, the new text reads as the document
-//! that the call on documents makes. *Bytes*: one piece of the text is replaced, at most one comma is put
-//! in or taken out before it, and all other bytes stay. The piece is white space, or it is one value or
-//! one child with the comments in it and beside it on its line. A patch does that once for each operation
-//! except a `test`, and twice for a `move`.
+//! that the call on documents makes. *Tokens*: without its comments, it has the tokens that the edit of
+//! the text without comments makes, one for one. Which piece is replaced, and that all comments stay
+//! except those in a value that is replaced or removed and beside one that is removed, is tested.
 //!
 //! In the examples `rt` is the runtime that `main` and each test receive, and `alloc` is
 //! `rt.alloc()`, the allocator.
