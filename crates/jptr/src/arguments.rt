@@ -1,6 +1,6 @@
 //! The command line: the commands, and the arguments and flags of each.
 
-use crate::help::{COMMANDS, Description};
+use crate::help::{COMMANDS, about_of, example_of};
 use clap::{Arg, ArgAction, Command};
 use std::alloc::{AllocError, Global};
 
@@ -152,8 +152,8 @@ impl Argument {
 /// Returns the command line of the program, which has this help.
 pub fn command<'a>(alloc: Global, help: &'a str) -> Result<Command<'a>, AllocError> {
     let mut command = program(alloc, help)?;
-    for description in COMMANDS {
-        command = command.subcommand(command_of(alloc, description)?)?;
+    for name in COMMANDS {
+        command = command.subcommand(command_of(alloc, name)?)?;
     }
     Ok(command)
 }
@@ -170,12 +170,12 @@ fn program<'a>(alloc: Global, help: &'a str) -> Result<Command<'a>, AllocError> 
     )
 }
 
-/// Returns the command of this description.
-fn command_of<'a>(alloc: Global, description: Description) -> Result<Command<'a>, AllocError> {
-    let command = Command::new(alloc, description.name)
-        .about(description.about)
-        .after_help(description.example);
-    with_own_arguments(alloc, description.name, command)
+/// Returns the command with this name.
+fn command_of<'a>(alloc: Global, name: &'static str) -> Result<Command<'a>, AllocError> {
+    let command = Command::new(alloc, name)
+        .about(about_of(name))
+        .after_help(example_of(name));
+    with_own_arguments(alloc, name, command)
 }
 
 /// Adds the arguments and flags of the command with this name.
