@@ -239,8 +239,7 @@ fn check_several(alloc: Global, matches: &ArgMatches<'_>) -> Result<(), ProgramE
         return Err(ProgramError::new(alloc, USAGE, "--lines", "takes one pointer"));
     }
     if FileFormat::of(matches) == FileFormat::Toml {
-        let message = "a TOML document takes one pointer at a time";
-        return Err(ProgramError::new(alloc, USAGE, "POINTER", message));
+        return Err(ProgramError::new(alloc, USAGE, "POINTER", "on TOML, one alone"));
     }
     Ok(())
 }
