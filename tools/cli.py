@@ -45,8 +45,8 @@ class Case(NamedTuple):
 TEXT = '{\n  "b": 1.0,\n  "a/b": [1, 2]\n}\n'
 NOT_FOUND = RESOLVE_NOT_FOUND.format(0)
 OUT_OF_BOUNDS = ASSIGN_OUT_OF_BOUNDS.format(5)
-# Errors of an empty text, and of an open brace.
-EMPTY = "text is not JSON: expected a value, found the end at line 1 column 1\n\n^\n"
+# Errors of an empty input, and of an open brace.
+EMPTY = "the input is empty\n"
 OPEN = "text is not JSON: expected a key or `}`, found the end at line 1 column 2\n{\n ^\n"
 
 
@@ -91,7 +91,7 @@ def cases():
     bad = '[{"op":"remove","path":"/a~b"}]'
     message = "not a JSON Patch document: member `path` of operation 0: json pointer failed to parse; the first token in the partial-pointer starting at offset 0 is malformed"
     drawn = "/a~b\n  ^^ '~' must be followed by '0' or '1'"
-    yield Case(("patch", "-", "/dev/null"), bad, "", f"jptr: standard input: {message}\n{drawn}\n", 1)
+    yield Case(("patch", "-", "/dev/null"), bad, "", f"jptr: standard input: {message}\n{drawn}\n", 3)
     yield Case(("diff", "/dev/null", "-"), "1", "", f"jptr: /dev/null: {EMPTY}", 3)
     yield Case(("set", "--create", "/a", "1"), TEXT, "", "jptr: --create: needs a file\n", 2)
     yield Case(("tokens", "/a~1b//~0"), "", '["a/b","","~"]\n')
@@ -109,6 +109,8 @@ def cases():
     yield from commented()
     yield from colours()
     yield from drawings()
+    yield from hints()
+    yield from escaped()
     yield from failing()
 
 
@@ -122,23 +124,40 @@ def operations():
     yield Case(("insert", "--compact", "/c", '{"y": 1, "x": 1e5}'), TEXT, '{"b":1.0,"a/b":[1,2],"c":{"y":1,"x":1e5}}\n')
     yield Case(("insert", "--lines", "/0", "0"), "[]\n[1]\n", "[0]\n[0,1]\n")
     yield Case(("insert", "/c", "x"), TEXT, "", "jptr: JSON: text is not JSON: expected a value, found `x` at line 1 column 1; a string needs quotes, or --string\nx\n^\n", 3)
-    yield Case(("insert", "/a", "1", "x.toml"), "", "", "jptr: insert: not on TOML\n", 2)
-    yield Case(("insert", "/a~1b/3", "0"), TEXT, "", f"jptr: standard input: {OUT_OF_BOUNDS}\n/a~1b/3\n      ^ 3 is out of bounds (len: 2)\n", 1)
+    yield Case(("insert", "/a", "1", "x.toml"), "", "", "jptr: insert: takes JSON, not TOML\n", 2)
+    yield Case(("insert", "/a~1b/3", "0"), TEXT, "", f"jptr: standard input: {OUT_OF_BOUNDS}\n/a~1b/3\n      ^ 3 is out of bounds (len: 2)\n", 6)
     yield Case(("insert", "/c", "[" * 125 + "]" * 125, "--compact"), "{}", '{"c":' + "[" * 125 + "]" * 125 + "}\n")
-    yield Case(("insert", "/c", "[" * 126 + "]" * 126), "{}", "", "jptr: JSON: patch would nest deeper than 127\n", 3)
+    yield Case(("insert", "/c", "[" * 126 + "]" * 126), "{}", "", "jptr: JSON: patch would nest deeper than 127\n", 6)
     yield Case(("move", "/b", "/c"), TEXT, '{\n  "a/b": [1, 2],\n  "c": 1.0\n}\n')
     yield Case(("move", "/a~1b/1", "/a~1b/0"), TEXT, TEXT.replace("1, 2", "2, 1"))
     yield Case(("copy", "/b", "/a~1b/0"), TEXT, TEXT.replace("[1", "[1.0, 1"))
     yield Case(("copy", "/b", "/a~1b", "--compact"), TEXT, '{"b":1.0,"a/b":1.0}\n')
     yield Case(("rename", "/b", "x/y"), TEXT, '{\n  "a/b": [1, 2],\n  "x/y": 1.0\n}\n')
     yield Case(("rename", "/a~1b", "-x", "--compact"), TEXT, '{"b":1.0,"-x":[1,2]}\n')
-    yield Case(("rename", "/b", "a/b"), TEXT, "", "jptr: standard input: there is a member with this key\n", 1)
-    yield Case(("rename", "/a~1b/0", "x"), TEXT, "", "jptr: standard input: not a member of an object\n", 1)
+    yield Case(("rename", "/b", "a/b"), TEXT, "", "jptr: standard input: there is a member with this key\n", 6)
+    yield Case(("rename", "/a~1b/0", "x"), TEXT, "", "jptr: standard input: not a member of an object\n", 6)
     yield Case(("rename", "", "x"), TEXT, "", "jptr: POINTER: the root has no key\n", 2)
     yield Case(("rename", "/c", "b"), TEXT, "", f"jptr: standard input: {NOT_FOUND}\n/c\n ^ not found in value\n", 1)
-    yield Case(("move", "/a~1b", "/a~1b/0"), TEXT, "", "jptr: standard input: FROM is a proper prefix of POINTER\n", 1)
+    yield Case(("move", "/a~1b", "/a~1b/0"), TEXT, "", "jptr: POINTER: FROM is a proper prefix of it\n", 2)
     yield Case(("from-paths", "--fill"), "/a\t[]\n/a/2\t3\n", '{"a":[null,null,3]}\n')
     yield Case(("from-paths", "--fill"), "/a\t{}\n/a/2\t3\n", '{"a":{"2":3}}\n')
+    options = '{\n  "compilerOptions": {\n    "strict": true,\n    "lib": ["a", "b"]\n  }\n}\n'
+    yield Case(("rename", "/compilerOptions", "options"), options, options.replace("compilerOptions", "options"))
+    yield Case(("rename", "/a/b", "c"), '{\n  "a": {\n    "b": 1\n  }\n}\n', '{\n  "a": {\n    "c": 1\n  }\n}\n')
+    yield Case(("move", "/a", "/b"), '{\n\t"a": [1.10,2]\n}\n', '{\n\t"b": [1.10,2]\n}\n')
+    yield Case(("rename", "--comments", "/a", "b"), '// x\n{\n  "a": 1\n}\n', '// x\n{\n  "b": 1\n}\n')
+    yield Case(("rename", "--comments", "/a", "b"), '{\n  "a": 1 // x\n}\n', "", LOSES_COMMENT(2, 10), 6)
+    lost = "jptr: standard input: the edit cannot be made in the text with its comments\n"
+    yield Case(("rename", "--comments", "/a", "b"), '{"a": /* x */ 1}', "", lost, 6)
+    for pointer in ["", "/b", "/a~1b", "/a~1b/0"]:
+        yield Case(("move", pointer, pointer), TEXT, TEXT)
+        yield Case(("move", "--compact", pointer, pointer), TEXT, '{"b":1.0,"a/b":[1,2]}\n')
+    yield Case(("move", "--comments", "/b", "/b"), COMMENTED, COMMENTED)
+    yield Case(("move", "/c", "/c"), TEXT, "", f"jptr: standard input: {NOT_FOUND}\n/c\n ^ not found in value\n", 1)
+    for words in [("/0", "/0"), ("/0", "/-")]:
+        yield Case(("move", *words), "[\n  1\n]\n", "[\n  1\n]\n")
+    yield Case(("move", "/0", "/1"), "[\n  1\n]\n", "", f"jptr: standard input: {ASSIGN_OUT_OF_BOUNDS.format(0)}\n/1\n ^ 1 is out of bounds (len: 0)\n", 6)
+    yield Case(("set", "/[python]/b", "1"), '{\n  "[python]": {}\n}\n', '{\n  "[python]": {\n    "b": 1\n  }\n}\n')
     yield Case(("copy", "--comments", "/b", "/c"), '{"b": [1, 2 /* x */]}', '{"b": [1, 2 /* x */], "c": [1, 2]}')
 
 
@@ -156,30 +175,31 @@ def commented():
     yield Case(("set", "--comments", "/a", "2.50"), COMMENTED, COMMENTED.replace("1.0", "2.50"))
     yield Case(("set", "--comments", "/c", "true"), COMMENTED, COMMENTED.replace("2],\n", '2],\n  "c": true,\n'))
     yield Case(("set", "--comments", "/b/-", "3", "/a", "null", "-"), COMMENTED, COMMENTED.replace("2]", "2, 3]").replace("1.0", "null"))
+    yield Case(("delete", "--comments", "/a"), '{ "a": 1 // d\n, "b": 1}', '{ "b": 1}')
     yield Case(("delete", "--comments", "/a"), COMMENTED, COMMENTED.replace('  "a": 1.0, // one\n', ""))
     yield Case(("insert", "--comments", "/b/0", "0"), COMMENTED, COMMENTED.replace("[1", "[0, 1"))
     yield Case(("copy", "--comments", "/a", "/c"), COMMENTED, COMMENTED.replace("2],\n", '2],\n  "c": 1.0,\n'))
     yield Case(("move", "--comments", "/b/0", "/c"), COMMENTED, COMMENTED.replace("1, /* x */ 2],\n", '/* x */ 2],\n  "c": 1,\n'))
     for words in [("move", "/a", "/c"), ("rename", "/a", "c")]:
-        yield Case((*words, "--comments"), COMMENTED, "", LOSES_COMMENT(3, 13), 1)
+        yield Case((*words, "--comments"), COMMENTED, "", LOSES_COMMENT(3, 13), 6)
         error = LOSES_COMMENT(3, 13).replace("\n", "; --reformat does not apply to a document with comments\n")
-        yield Case((*words, "--comments", "--reformat"), COMMENTED, "", error, 1)
-    yield Case(("move", "--comments", "/b", "/c"), COMMENTED, "", LOSES_COMMENT(4, 12), 1)
-    yield Case(("move", "--comments", "/0", "/1"), "[1, // é\n2 /* é\n*/, 3]", "", LOSES_COMMENT(1, 5), 1)
-    yield Case(("move", "--comments", "/1", "/0"), "[1, // é\n2 /* é\n*/, 3]", "", LOSES_COMMENT(2, 3), 1)
+        yield Case((*words, "--comments", "--reformat"), COMMENTED, "", error, 6)
+    yield Case(("move", "--comments", "/b", "/c"), COMMENTED, "", LOSES_COMMENT(4, 12), 6)
+    yield Case(("move", "--comments", "/0", "/1"), "[1, // é\n2 /* é\n*/, 3]", "", LOSES_COMMENT(1, 5), 6)
+    yield Case(("move", "--comments", "/1", "/0"), "[1, // é\n2 /* é\n*/, 3]", "", LOSES_COMMENT(2, 3), 6)
     yield Case(("rename", "--comments", "/a", "c"), COMMENTED.replace(" // one", ""), '{\n  // first\n  "b": [1, /* x */ 2],\n  "c": 1.0,\n}\n')
-    yield Case(("insert", "--comments", "/b/3", "0"), COMMENTED, "", f"jptr: standard input: {ASSIGN_OUT_OF_BOUNDS.format(2)}\n/b/3\n   ^ 3 is out of bounds (len: 2)\n", 1)
+    yield Case(("insert", "--comments", "/b/3", "0"), COMMENTED, "", f"jptr: standard input: {ASSIGN_OUT_OF_BOUNDS.format(2)}\n/b/3\n   ^ 3 is out of bounds (len: 2)\n", 6)
     yield Case(("keys", "--comments", ""), COMMENTED, '"a"\n"b"\n')
     yield Case(("length", "--comments", "/b"), COMMENTED, "2\n")
     yield Case(("test", "--comments", "/b/1", "2"), COMMENTED, "")
     yield Case(("paths", "--comments"), COMMENTED, "/a\t1.0\n/b/0\t1\n/b/1\t2\n")
     yield Case(("locate", "--comments", "/b/1"), COMMENTED, "4:20\n")
     yield Case(("locate", "--comments", "--at", "4:20"), COMMENTED, "/b/1\n")
-    yield Case(("set", "--comments", "--compact", "/a", "2"), COMMENTED, "", LOSES_COMMENTS, 1)
-    yield Case(("set", "--comments", "--compact", "/a", "2", "/b", "3", "-"), COMMENTED, "", LOSES_COMMENTS, 1)
+    yield Case(("set", "--comments", "--compact", "/a", "2"), COMMENTED, "", LOSES_COMMENTS, 6)
+    yield Case(("set", "--comments", "--compact", "/a", "2", "/b", "3", "-"), COMMENTED, "", LOSES_COMMENTS, 6)
     yield Case(("set", "--comments", "--compact", "/a", "2"), '{"a": 1}', '{"a":2}\n')
     yield Case(("set", "--comments", "--reformat", "/a", "2.50"), COMMENTED, COMMENTED.replace("1.0", "2.50"))
-    yield Case(("format", "--comments"), COMMENTED, "", LOSES_COMMENTS, 1)
+    yield Case(("format", "--comments"), COMMENTED, "", LOSES_COMMENTS, 6)
     yield Case(("format", "--comments"), "[1]", "[\n  1\n]\n")
     missing = f"jptr: standard input: {NOT_FOUND}\n/c\n ^ not found in value\n"
     yield Case(("get", "--comments", "/c"), COMMENTED, "", missing, 1)
@@ -240,7 +260,7 @@ def layouts():
     yield Case(("relayout", "/dev/null"), TEXT, "", f"jptr: /dev/null: {EMPTY}", 3)
     yield Case(("relayout", "-"), TEXT, "", "jptr: FILE: standard input cannot be both documents\n", 2)
     yield Case(("relayout", "-", "-"), TEXT, "", "jptr: FILE: standard input cannot be both documents\n", 2)
-    yield Case(("relayout", "x.toml"), TEXT, "", "jptr: relayout: not on TOML\n", 2)
+    yield Case(("relayout", "x.toml"), TEXT, "", "jptr: relayout: takes JSON, not TOML\n", 2)
 
 
 def locations():
@@ -258,11 +278,12 @@ def locations():
     yield Case(("locate", "--at", "1:6"), '{"a": 1, "a": 2}', "\n")
     yield Case(("locate", "--at", "4:2"), TEXT, "", "jptr: standard input: no value at 4:2\n", 1)
     yield Case(("locate", "--at", "9:1"), TEXT, "", "jptr: standard input: no value at 9:1\n", 1)
+    yield Case(("locate", "--at", "4:18"), "{", "", f"jptr: standard input: {OPEN}", 3)
     yield Case(("locate", "--at", "0:1"), TEXT, "", "jptr: --at: is not LINE:COLUMN, both from 1\n", 2)
     yield Case(("locate", "--at", "1"), TEXT, "", "jptr: --at: is not LINE:COLUMN, both from 1\n", 2)
     yield Case(("locate", "--at", "1:1", "/a", "f"), TEXT, "", "jptr: locate: --at takes a file alone\n", 2)
     yield Case(("locate",), TEXT, "", "jptr: locate: needs a pointer, or --at LINE:COLUMN\n", 2)
-    yield Case(("locate", "/a", "x.toml"), TEXT, "", "jptr: locate: not on TOML\n", 2)
+    yield Case(("locate", "/a", "x.toml"), TEXT, "", "jptr: locate: takes JSON, not TOML\n", 2)
     yield Case(("locate", "/a", "/dev/null"), TEXT, "", f"jptr: /dev/null: {EMPTY}", 3)
     yield Case(("locate", "--at", "1:1", "/dev/null"), TEXT, "", f"jptr: /dev/null: {EMPTY}", 3)
 def nodes():
@@ -296,10 +317,63 @@ def nodes():
     for words in [("keys", ""), ("length", ""), ("type", ""), ("test", ""), ("test", "", "1")]:
         yield Case(words, "{", "", f"jptr: standard input: {OPEN}", 3)
         file = ("x.toml",) if words != ("test", "") else ("1", "x.toml")
-        yield Case((*words, *file), "", "", f"jptr: {words[0]}: not on TOML\n", 2)
+        yield Case((*words, *file), "", "", f"jptr: {words[0]}: takes JSON, not TOML\n", 2)
     yield Case(("test", "/b", "x"), TEXT, "", "jptr: JSON: text is not JSON: expected a value, found `x` at line 1 column 1; a string needs quotes, or --string\nx\n^\n", 3)
     yield Case(("test", "/b", "@-"), TEXT, "", "jptr: JSON: standard input cannot be the value and the document\n", 2)
     yield Case(("test", "/b", "@/dev/null"), TEXT, "", f"jptr: /dev/null: {EMPTY}", 3)
+
+
+# The error of a pointer without a slash at its start: what to type instead, and the pointer.
+NO_SLASH = "jptr: POINTER: json pointer failed to parse; does not start with a slash ('/') and is not empty; {}\n{}\n^ must start with a slash ('/')\n"
+LOOKS = "a pointer looks like /a/0 and comes before FILE, and '' is the whole document"
+
+
+def hints():
+    """Errors that say what to type instead."""
+    yield Case(("get", "f", "/name"), "", "", NO_SLASH.format(LOOKS, "f"), 2)
+    yield Case(("get", ".name"), "", "", NO_SLASH.format("write /a/0 for .a[0], and '' for the whole document", ".name"), 2)
+    yield Case(("get", "#/a%20b"), "", "", NO_SLASH.format("leave out the #, and write a character for each of its %-codes", "#/a%20b"), 2)
+    yield Case(("get", "/a", "/b"), "{}", "", "jptr: /b: No such file or directory (os error 2); after several pointers, write - for standard input\n", 5)
+    yield Case(("delete", "/a", "/b"), "{}", "", "jptr: /b: No such file or directory (os error 2); after several pointers, write - for standard input\n", 5)
+    yield Case(("patch", "-", "/dev/null"), '{"a": null}', "", "jptr: standard input: not a JSON Patch document: not an array; a merge patch (RFC 7396) is not taken\n", 3)
+    for text in ["", " \n"]:
+        yield Case(("get", ""), text, "", f"jptr: standard input: {EMPTY}", 3)
+    for text, column in [('["a\\ud83d"]', 4), ('["\\uDE00"]', 3), ('["\\ud83d\\ud83d\\ude00"]', 3)]:
+        half = f"jptr: standard input: text is not JSON: an escape is half of a surrogate pair at line 1 column {column}\n{text}\n{' ' * (column - 1)}^\n"
+        yield Case(("get", ""), text, "", half, 3)
+    yield Case(("get", "/0"), '["\\ud83d\\ude00"]', '"\\ud83d\\ude00"\n')
+    lines = "jptr: standard input: text is not JSON: expected the end, found `{` at line 2 column 1; with --lines, each line is a document\n{}\n^\n"
+    yield Case(("get", "/a"), "{}\n{}\n", "", lines, 3)
+    toml = "jptr: JSON: not a TOML value{}\n".format
+    yield Case(("set", "--toml", "/a", "x"), "", "", toml(": a string needs quotes, or --string"), 3)
+    yield Case(("set", "--toml", "/a", '{"x": 1}'), "", "", toml(': TOML writes {x = 1} for {"x": 1}'), 3)
+    yield Case(("set", "--toml", "/a", "1 2"), "", "", toml(""), 3)
+    for flags in [("--pretty",), ("--compact",), ("--indent", "2"), ("--sort-keys",), ("--color", "never")]:
+        for words in [("get", "/a"), ("set", "/a", "1"), ("delete", "/a")]:
+            yield Case((*words, "--toml", *flags), "a = 1\n", "", f"jptr: {flags[0]}: is for JSON, and the document is TOML\n", 2)
+    for words in [("get", "/a"), ("delete", "/a"), ("paths",)]:
+        yield Case((*words, "--toml", "--lossy"), "a = 1\n", "", "jptr: --lossy: does nothing here: reading TOML loses no digit\n", 2)
+        yield Case((*words, "--comments", "x.toml"), "", "", "jptr: --comments: is for JSON, and the document is TOML\n", 2)
+    yield Case(("get", "--toml", "--lossy", "--default", "1e-400", "/b"), "a = 1\n", "0.0\n")
+    yield Case(("diff", "-", "x.toml"), "", "", "jptr: diff: takes JSON, not TOML\n", 2)
+
+
+# Characters that could move the cursor, and how they are shown.
+MOVING = [("\x1b", "\\u001b"), ("\x01", "\\u0001"), ("\x7f", "\\u007f"), ("\x85", "\\u0085"), ("\x9b", "\\u009b"), ("\u202e", "\\u202e"), ("\r", "\\r")]
+
+
+def escaped():
+    """Characters of the input that could move the cursor: in errors they are escaped as in a JSON string."""
+    for c, shown in MOVING:
+        caret = "^" * (1 + len(shown))
+        yield Case(("paths",), f'{{{json.dumps(f"é{c}")}: 1e-400}}', "", f"jptr: standard input: the number at /é{shown} loses digits: use --lossy\n", 3)
+        gap = f"line 1: no element is before 1 in an array at /{shown}: --fill adds null, and lines of paths --all tell an object"
+        yield Case(("from-paths",), f"/{c}/1\t2\n", "", f"jptr: standard input: {gap}\n", 6)
+        yield Case(("get", f"/é{c}"), "{}", "", f"jptr: standard input: {NOT_FOUND}\n/é{shown}\n {caret} not found in value\n", 1)
+        yield Case(("get", "/a", f"f{c}.json"), "", "", f"jptr: f{shown}.json: No such file or directory (os error 2)\n", 5)
+        wrong = f"text is not JSON: expected the end, found `{shown}` at line 1 column 3\n1 {shown}\n  ^\n"
+        if c != "\r":
+            yield Case(("get", ""), f"1 {c}", "", f"jptr: standard input: {wrong}", 3)
 
 
 def several():
@@ -329,15 +403,14 @@ def several():
     yield Case(("set", "--sort-keys", "/c", "1.10", "/a", "2"), '{"b": 1}', '{"a":2,"b":1,"c":1.1}\n')
     yield Case(("set", "--sort-keys", "/c", "1e-400", "/c", "2"), '{"b": 1}', '{"b":1,"c":2}\n')
     yield Case(("set", "/c", "1", "/b/5", "2"), '{"b":[]}', "",
-               "jptr: standard input: assign failed: json pointer token at offset 2 is out of bounds\n/b/5\n   ^ 5 is out of bounds (len: 0)\n", 1)
+               "jptr: standard input: assign failed: json pointer token at offset 2 is out of bounds\n/b/5\n   ^ 5 is out of bounds (len: 0)\n", 6)
     yield Case(("set", "/c", "1", "/d", "x", "-"), "{}", "", "jptr: JSON: text is not JSON: expected a value, found `x` at line 1 column 1; a string needs quotes, or --string\nx\n^\n", 3)
     yield Case(("set", "/a", "@-", "/b", "@-", "/dev/null"), "1", "", "jptr: JSON: standard input cannot be two values\n", 2)
     yield Case(("set", "/a", "1", "/b", "@-"), "1", "", "jptr: JSON: standard input cannot be the value and the document\n", 2)
-    no_slash = "json pointer failed to parse; does not start with a slash ('/') and is not empty"
-    yield Case(("get", "/a", "b", "c"), "", "", f"jptr: POINTER: {no_slash}\nb\n^ must start with a slash ('/')\n", 1)
+    yield Case(("get", "/a", "b", "c"), "", "", NO_SLASH.format(LOOKS, "b"), 2)
     for words in [("get", "/a", "/b", "-"), ("delete", "/a", "/b", "-"), ("set", "/a", "1", "/b", "2")]:
         yield Case((*words, "--lines"), "{}", "", "jptr: --lines: takes one pointer\n", 2)
-        yield Case((*words, "--toml"), "", "", "jptr: POINTER: on TOML, one alone\n", 2)
+        yield Case((*words, "--toml"), "", "", "jptr: POINTER: a TOML document takes one pointer at a time\n", 2)
 
 
 def unexpanded():
@@ -350,15 +423,15 @@ def unexpanded():
     scalar = "jptr: standard input: a scalar is on the way, and --no-expand replaces none\n"
     for pointer in ["/b/c", "/a~1b/0/-"]:
         caret = " " * (len(pointer) - 1) + "^"
-        yield Case((*words, pointer, "2"), TEXT, "", f"{scalar}{pointer}\n{caret} unreachable\n", 1)
+        yield Case((*words, pointer, "2"), TEXT, "", f"{scalar}{pointer}\n{caret} unreachable\n", 6)
     missing = f"jptr: standard input: {NOT_FOUND}; --no-expand creates no container\n"
-    yield Case((*words, "/c/d", "2"), TEXT, "", f"{missing}/c/d\n ^ not found in value\n", 1)
-    yield Case((*words, "/b", "2", "/c/d", "2"), TEXT, "", f"{missing}/c/d\n ^ not found in value\n", 1)
+    yield Case((*words, "/c/d", "2"), TEXT, "", f"{missing}/c/d\n ^ not found in value\n", 6)
+    yield Case((*words, "/b", "2", "/c/d", "2"), TEXT, "", f"{missing}/c/d\n ^ not found in value\n", 6)
     yield Case((*words, "/c/d", "2"), "{", "", f"jptr: standard input: {OPEN}", 3)
     yield Case((*words, "--toml", "/a", "2"), "a = 1\n", "a = 2\n")
-    yield Case((*words, "--toml", "/a/b", "2"), "a = 1\n", "", scalar, 1)
+    yield Case((*words, "--toml", "/a/b", "2"), "a = 1\n", "", scalar, 6)
     missing = "an array or a table on the way is missing, and --no-expand creates none"
-    yield Case((*words, "--toml", "/b/c", "2"), "a = 1\n", "", f"jptr: standard input: {missing}\n", 1)
+    yield Case((*words, "--toml", "/b/c", "2"), "a = 1\n", "", f"jptr: standard input: {missing}\n", 6)
 
 
 def own_texts():
@@ -391,7 +464,7 @@ def own_texts():
     deep = "[" * 126 + "1.10" + "]" * 126
     yield Case(("set", "/a", deep), "{}", f'{{"a":{deep}}}')
     failed = "jptr: standard input: document would nest deeper than 127\n"
-    yield Case(("set", "/a/b", deep), "{}", "", failed, 1)
+    yield Case(("set", "/a/b", deep), "{}", "", failed, 6)
 
 
 def formats():
@@ -411,7 +484,7 @@ def formats():
     yield Case(("delete", "--indent", "1", "/b"), '{"a":1.10,"b":2}', '{\n "a": 1.10\n}\n')
     yield Case(("get", "--indent", "16", "--default", "[1]", "/b"), "{}", f"[\n{' ' * 16}1\n]\n")
     yield Case(("format",), "{", "", f"jptr: standard input: {OPEN}", 3)
-    yield Case(("format", "/dev/null.toml"), "", "", "jptr: format: not on TOML\n", 2)
+    yield Case(("format", "/dev/null.toml"), "", "", "jptr: format: takes JSON, not TOML\n", 2)
 
 
 def digits():
@@ -456,7 +529,7 @@ def on_paths():
     yield Case(("from-paths",), "a\t1\n", "", "jptr: standard input: line 1: not a pointer\n", 3)
     yield Case(("from-paths",), "/a\tx\n", "", "jptr: standard input: line 1: not JSON after the tab\n", 3)
     yield Case(("from-paths",), "/x" * 127 + "\t1\n", '{"x":' * 127 + "1" + "}" * 127 + "\n")
-    yield Case(("from-paths",), "/x" * 128 + "\t1\n", "", "jptr: standard input: line 1: document would nest deeper than 127\n", 1)
+    yield Case(("from-paths",), "/x" * 128 + "\t1\n", "", "jptr: standard input: line 1: document would nest deeper than 127\n", 6)
     yield from gaps()
     yield Case(("paths",), "{", "", f"jptr: standard input: {OPEN}", 3)
     table = "[a]\nat = 1979-05-27\nb = [1.0, 'x\"y']\n[c]\ns = \"1\\n2\"\n"
@@ -466,20 +539,20 @@ def on_paths():
     yield Case(("paths", "--toml", "--all"), "[[a]]\nb = -inf\n", nodes)
     yield Case(("paths", "--toml"), "", "\t{}\n")
     message = "invalid value, expected a string, number, boolean, date-time, array or inline table"
-    yield Case(("paths", "--toml"), "b = 1\na = ", "", f"jptr: standard input: text is not TOML: {message} at line 2 column 5\n", 3)
+    yield Case(("paths", "--toml"), "b = 1\na = ", "", f"jptr: standard input: text is not TOML: {message} at line 2 column 5\na = \n    ^\n", 3)
     commented = "# c\na = 1 # one\n"
     yield Case(("set", "--toml", "/a", "2"), commented, "# c\na = 2 # one\n")
     yield Case(("set", "--toml", "/b/c", "[1]"), commented, commented + "\n[b]\nc = [1]\n")
     yield Case(("delete", "--toml", "/a"), commented + "b = 2\n", "# c\nb = 2\n")
     anew = "jptr: standard input: printed anew, without its comments and layout\n"
     yield Case(("set", "--toml", "/a/b", "2"), commented, "[a]\nb = 2\n", anew)
-    yield Case(("patch", "/dev/null", "x.toml"), "", "", "jptr: patch: not on TOML: use set and delete\n", 2)
+    yield Case(("patch", "/dev/null", "x.toml"), "", "", "jptr: patch: takes JSON, not TOML: use set and delete\n", 2)
 
 
 # Texts that are not JSON, what is said of each, and where.
 SYNTAX = [
-    ("[1,]", "text is not JSON: expected a value, found `]`", 1, 4),
-    ('{"a": 1,}', "text is not JSON: expected a key, found `}`", 1, 9),
+    ("[1,]", "text is not JSON: expected a value, found `]`", 1, 4, "; with --comments, trailing commas are read"),
+    ('{"a": 1,}', "text is not JSON: expected a key, found `}`", 1, 9, "; with --comments, trailing commas are read"),
     ("[1 2]", "text is not JSON: expected `,` or `]`, found `2`", 1, 4),
     ('{\n  "é": 1\n  "b": 2\n}', "text is not JSON: expected `,` or `}`, found `\"`", 3, 3),
     ('{"a" 1}', "text is not JSON: expected `:`, found `1`", 1, 6),
@@ -499,28 +572,28 @@ def gaps():
     """Lines of arrays whose elements are missing."""
     gap = "jptr: standard input: line {}: no element is before {} in an array{}: --fill adds null, and lines of paths --all tell an object\n".format
     cake = '/menu/items/1/name\t"cake"\n'
-    yield Case(("from-paths",), cake, "", gap(1, 1, " at /menu/items"), 1)
+    yield Case(("from-paths",), cake, "", gap(1, 1, " at /menu/items"), 6)
     yield Case(("from-paths", "--fill"), cake, '{"menu":{"items":[null,{"name":"cake"}]}}\n')
-    yield Case(("from-paths",), "/2\t1\n", "", gap(1, 2, ""), 1)
+    yield Case(("from-paths",), "/2\t1\n", "", gap(1, 2, ""), 6)
     yield Case(("from-paths", "--fill"), "/2\t1", "[null,null,1]\n")
     yield Case(("from-paths", "--fill"), "", "null\n")
     yield Case(("from-paths", "--fill"), "/a/1\t1\n/a/4/2\t2\n/b\t3\n", '{"a":[null,1,null,null,[null,null,2]],"b":3}\n')
-    yield Case(("from-paths",), "/b\t0\n/a/0/1\t1\n", "", gap(2, 1, " at /a/0"), 1)
+    yield Case(("from-paths",), "/b\t0\n/a/0/1\t1\n", "", gap(2, 1, " at /a/0"), 6)
     missing = "jptr: standard input: line {}: index {} is missing; with --fill, missing elements are null\n".format
-    yield Case(("from-paths",), "\t[]\n/1\t1\n", "", missing(2, 0), 1)
-    yield Case(("from-paths",), "/0\t1\n/2\t1\n", "", missing(2, 1), 1)
-    yield Case(("from-paths",), "/a/0\t1\n/a/2\t2\n", "", missing(2, "1 of /a"), 1)
-    yield Case(("from-paths",), "/a/0\t1\n/a/1/0\t2\n/a/1/3/b\t2\n", "", missing(3, "1 of /a/1"), 1)
+    yield Case(("from-paths",), "\t[]\n/1\t1\n", "", missing(2, 0), 6)
+    yield Case(("from-paths",), "/0\t1\n/2\t1\n", "", missing(2, 1), 6)
+    yield Case(("from-paths",), "/a/0\t1\n/a/2\t2\n", "", missing(2, "1 of /a"), 6)
+    yield Case(("from-paths",), "/a/0\t1\n/a/1/0\t2\n/a/1/3/b\t2\n", "", missing(3, "1 of /a/1"), 6)
     yield Case(("from-paths", "--fill"), "/a/0\t1\n/a/2\t2\n", '{"a":[1,null,2]}\n')
     # No `null` is added for an element that is not after the line before it.
     message = "assign failed: json pointer token at offset 2 is out of bounds"
     for flags in [(), ("--fill",)]:
-        yield Case(("from-paths", *flags), "/a/0\t1\n/b\t1\n/a/2\t2\n", "", f"jptr: standard input: line 3: {message}\n", 1)
+        yield Case(("from-paths", *flags), "/a/0\t1\n/b\t1\n/a/2\t2\n", "", f"jptr: standard input: line 3: {message}\n", 6)
     yield Case(("from-paths",), "/a/x\t1\n/a/1\t2\n/b\t3\n/a/2\t4\n", '{"a":{"1":2,"2":4,"x":1},"b":3}\n')
     yield Case(("from-paths",), '/a\t{"b":{}}\n/c\t1\n/a/b/1\t2\n', '{"a":{"b":{"1":2}},"c":1}\n')
     yield Case(("from-paths",), "/a/01\t1\n", '{"a":{"01":1}}\n')
     yield Case(("from-paths", "--fill"), "/a/2\t1\n/b\tx\n", "", "jptr: standard input: line 2: not JSON after the tab\n", 3)
-    yield Case(("from-paths", "--fill"), "/a/1048577\t1\n", "", "jptr: standard input: line 1: more than 1048576 elements are missing\n", 1)
+    yield Case(("from-paths", "--fill"), "/a/1048577\t1\n", "", "jptr: standard input: line 1: more than 1048576 elements are missing\n", 6)
 
 
 def failing():
@@ -534,10 +607,10 @@ def failing():
     value = "jptr: JSON: text is not JSON: expected a value, found `{}` at line 1 column 1"
     yield Case(("set", "/a", "x"), TEXT, "", value.format("x") + "; a string needs quotes, or --string\nx\n^\n", 3)
     yield Case(("set", "/a", "'x'"), TEXT, "", value.format("'") + "\n'x'\n^\n", 3)
-    for text, why, line, column in SYNTAX:
+    for text, why, line, column, *hint in SYNTAX:
         row = text.split("\n")[line - 1]
         drawn = f"{row[max(0, column - 61) : column + 59]}\n{' ' * min(column - 1, 60)}^\n"
-        yield Case(("get", "/a"), text, "", f"jptr: standard input: {why} at line {line} column {column}\n{drawn}", 3)
+        yield Case(("get", "/a"), text, "", f"jptr: standard input: {why} at line {line} column {column}{''.join(hint)}\n{drawn}", 3)
     yield Case(("set", "/a", "@-"), TEXT, "", "jptr: JSON: standard input cannot be the value and the document\n", 2)
     yield Case(("set", "/a", "@/dev/null"), TEXT, "", f"jptr: /dev/null: {EMPTY}", 3)
 
@@ -629,6 +702,11 @@ def check_usage():
         if given.returncode or given.stderr or b"Usage: jptr" not in given.stdout:
             raise CheckFailed(f"{command} --help: status {given.returncode}, {given.stdout!r}, {given.stderr!r}")
         runs += 1
+    for c, shown in MOVING:
+        given = run(("get", f"--{c}", "/a")).stderr.decode()
+        if c in given or f"'--{shown}'" not in given:
+            raise CheckFailed(f"a flag with {c!r}: {given!r}")
+        runs += 1
     version = run(("--version",)).stdout.decode()
     with open(f"{TOP}/crates/jsonptr/VERSION", encoding="utf-8") as file:
         if version != f"jptr {file.readline()}":
@@ -639,8 +717,113 @@ def check_usage():
 def commands():
     """Returns the commands that `--help` lists."""
     text = run(("--help",)).stdout.decode()
-    listed = text.partition("Commands:\n")[2].partition("\n\n")[0]
-    return [name for name in re.findall(r"^  (\S+)", listed, re.MULTILINE) if name != "help"]
+    listed = text.partition("\n\n")[2].partition("\nOptions:\n")[0]
+    return re.findall(r"^  ([a-z-]+)  ", listed, re.MULTILINE)
+
+
+# Files that the examples of the help and of the exit statuses name.
+EXAMPLE_FILES = {
+    "app.json": '{\n  "name": "app",\n  "sizes": [1.0, 5]\n}\n',
+    "old.json": '{"name": "old"}\n',
+    "new.json": '{"name": "new"}\n',
+    "patch.json": '[{"op": "test", "path": "/sizes/1", "value": 5}]\n',
+}
+DEEP = "[" * 126 + "]" * 126
+# The sentences of the table of exit statuses, each with runs that end so: arguments, and the input. One that is to run out of
+# memory has none.
+STATUSES = [
+    (0, "Done, also if nobody reads the output any more, as after | head -1", [(("get", "/a"), '{"a": 1}')]),
+    (1, "No: test finds another value or none, the documents of diff differ, or a patch does not apply", [
+        (("test", "/a", "2"), '{"a": 1}'), (("test", "/b"), '{"a": 1}'), (("diff", "old.json", "new.json"), ""),
+        (("patch", "patch.json"), '{"sizes": []}'), (("patch", "--check", "patch.json"), '{"sizes": [1, 2]}')]),
+    (1, "A pointer leads to no value", [
+        ((*words, "/b", *more), '{"a": 1}') for words, more in [
+            (("get",), ()), (("delete",), ()), (("keys",), ()), (("length",), ()), (("type",), ()), (("locate",), ()), (("rename",), ("c",)),
+            (("move",), ("/c",)), (("copy",), ("/c",)), (("get", "/a"), ("-",)), (("get", "--comments"), ()), (("delete", "--comments"), ())]]
+        + [(("get", "--toml", "/b"), "a = 1\n"), (("delete", "--toml", "/b"), "a = 1\n"), (("insert", "/b/c", "1"), "{}")]),
+    (1, "A value has no keys or no length", [(("keys", "/a"), '{"a": 1}'), (("length", "/a"), '{"a": 1}')]),
+    (1, "No value is at a position", [(("locate", "--at", "1:9"), "[1, 2]"), (("locate", "--at", "9:1"), "[1, 2]")]),
+    (2, "The command line is wrong", [(("get",), "1"), (("get", "--unknown", ""), "1"), (("rename", "", "a"), "1"), (("move", "/a", "/a/b"), '{"a": {}}')]),
+    (2, "An argument is not a pointer or a token", [
+        (words, '{"a": 1}') for words in [
+            ("get", "a"), ("get", "/a", "a", "-"), ("set", "a", "1"), ("set", "/a", "1", "a", "1"), ("delete", "a"), ("insert", "a", "1"), ("move", "a", "/a"),
+            ("copy", "/a", "a"), ("rename", "a", "b"), ("keys", "a"), ("length", "a"), ("type", "a"), ("test", "a"), ("locate", "/~2"), ("tokens", "a"),
+            ("unescape", "~2"), ("get", "--lines", "a"), ("get", "--toml", "a")]]),
+    (3, "The input or an argument is not JSON or TOML", [
+        (("get", "/a"), "{"), (("set", "/a", "x"), "{}"), (("get", "--toml", "/a"), "a"), (("set", "--toml", "/a", "x"), ""), (("test", "/a"), "{"),
+        (("locate", "--at", "9:1"), "{"), (("diff", "-", "new.json"), ""), (("patch", "-", "new.json"), "{")]),
+    (3, "A document is not a patch", [(("patch", "app.json"), "{}"), (("patch", "-", "app.json"), '[{"op": "remove", "path": "a"}]')]),
+    (3, "A line is not a pointer, a tab and JSON", [(("from-paths",), "/a 1"), (("from-paths",), "a\t1"), (("from-paths",), "/a\tx")]),
+    (3, "A number loses digits", [(("paths",), "1e-400"), (("format", "--sort-keys"), "1e-400"), (("set", "--toml", "/a", "1e-400"), "")]),
+    (4, "Out of memory", []),
+    (5, "A file could not be read or written", [(("get", "/a", "none.json"), ""), (("set", "/a", "1", "none.json", "-i"), "")]),
+    (6, "An edit cannot be made: no value can be put at the pointer, or the text or its comments do not allow it", [
+        (("set", "/a/5", "1"), '{"a": []}'), (("insert", "/a/5", "1"), '{"a": []}'), (("set", "--no-expand", "/a/b", "1"), '{"a": 1}'),
+        (("set", "--no-expand", "/b/c", "1"), "{}"), (("set", "--toml", "--no-expand", "/b/c", "1"), ""), (("rename", "/a", "b"), '{"a": 1, "b": 2}'),
+        (("rename", "/0", "b"), "[1]"), (("from-paths",), "/2\t1"), (("move", "--comments", "/0", "/1"), "[1, // one\n2]"),
+        (("delete", "--comments", "/a"), '{"a": 1, /* x */ "a": 2}')]),
+    (6, "A document cannot be laid out as wanted", [(("format", "--comments"), "[1] // one"), (("set", "--comments", "--pretty", "/0", "2"), "[1] // one")]),
+    (6, "A document or a patch would nest too deep", [(("set", "/a/b", DEEP), "{}"), (("insert", "/a", DEEP), "{}")]),
+    (7, "With --lines, some line is at fault", [(("get", "--lines", "/a"), '{"a": 1}\n{}\n'), (("get", "--lines", "--strict", "/a"), "{\n")]),
+]
+
+
+def write_example_files(folder):
+    """Writes the files of examples, and a folder with the program."""
+    for name, text in EXAMPLE_FILES.items():
+        write(f"{folder}/{name}", text)
+    os.mkdir(f"{folder}/bin")
+    os.symlink(PROGRAM, f"{folder}/bin/jptr")
+
+
+def check_statuses(folder, shim):
+    """Checks that the tables of exit statuses in the guide and the man page are the sentences of `STATUSES`, and the status of
+    each example. Returns the number of runs."""
+    write_example_files(folder)
+    wanted = {}
+    for status, sentence, _ in STATUSES:
+        wanted[status] = f"{wanted[status]}. {sentence}" if status in wanted else sentence
+    rows = re.findall(r"^\| (\d) \| (.*) \|$", read(GUIDE), re.MULTILINE)
+    tables = {"guide": {int(status): text.replace("`", "") for status, text in rows}, "man page": statuses_of_man_page()}
+    for name, table in tables.items():
+        if table != wanted:
+            raise CheckFailed(f"the exit statuses of the {name} are {table}, and not {wanted}")
+    runs = 0
+    for status, sentence, examples_of_it in STATUSES:
+        for words, text in examples_of_it:
+            given = run(words, text, cwd=folder)
+            if given.returncode != status or (status > 1 and not given.stderr):
+                raise CheckFailed(f"{words} on {text[:60]!r}: status {given.returncode}, {given.stderr!r}, and not {status}: {sentence}")
+            runs += 1
+    given, _, _ = run_with_shim([PROGRAM, "get", "/a"], '{"a": 1}', shim, "all", count="run", may_keep=True)
+    if given.returncode != 4:
+        raise CheckFailed(f"without memory: status {given.returncode}")
+    return runs + 1
+
+
+def statuses_of_man_page():
+    """Returns the sentences of each exit status of the man page."""
+    rows = read(INSTALLED["man page"]).partition(".Sh EXIT STATUS")[2].partition(".El")[0]
+    table = {}
+    for status, text in re.findall(r"^\.It (\d)\n((?:(?!\.It ).*\n)*)", rows, re.MULTILINE):
+        text = re.sub(r"^\.Fl -(.*?)( [.,:;])?$", r"--\1\2", text, flags=re.MULTILINE)
+        text = re.sub(r"^\.(?:Cm|Ql) ", "", text, flags=re.MULTILINE)
+        table[int(status)] = re.sub(r" ([.,:;])", r"\1", " ".join(text.split())).removesuffix(".")
+    return table
+
+
+def check_help_examples(folder):
+    """Runs the example in the help of the program and of each command. Returns the number of runs."""
+    environment = {**os.environ, "PATH": f"{folder}/bin:{os.environ['PATH']}"}
+    for command in [(), *((name,) for name in commands())]:
+        lines = re.findall(r"^Example: (.*)$", run((*command, "--help")).stdout.decode(), re.MULTILINE)
+        if len(lines) != 1 or f"jptr {' '.join(command)}".strip() not in lines[0]:
+            raise CheckFailed(f"{command} --help has the examples {lines}")
+        given = subprocess.run(["bash", "-c", lines[0]], cwd=folder, env=environment, capture_output=True, timeout=SECONDS)
+        if given.returncode != (1 if command == ("diff",) else 0) or given.stderr:
+            raise CheckFailed(f"{lines[0]}: status {given.returncode}, {given.stderr!r}")
+        write(f"{folder}/app.json", EXAMPLE_FILES["app.json"])
+    return len(commands()) + 1
 
 
 def flags(command):
@@ -815,15 +998,15 @@ def digits_of_lines():
     """Lines with numbers that lose digits. Such a line is at fault, and the run goes on."""
     lines = '{"a": [1.10, 3.14159265358979323846]}\n{"a": 1.10}\n'
     fault = "jptr: standard input:1: the number at /1 loses digits: use --lossy\n"
-    yield Case(("get", "--lines", "--sort-keys", "/a"), lines, "1.1\n", fault, 1)
-    yield Case(("get", "--lines", "--sort-keys", "--strict", "/a"), lines, "", fault, 1)
-    yield Case(("get", "--lines", "--sort-keys", "--default", "0", "/a"), lines, "0\n1.1\n", fault, 1)
+    yield Case(("get", "--lines", "--sort-keys", "/a"), lines, "1.1\n", fault, 7)
+    yield Case(("get", "--lines", "--sort-keys", "--strict", "/a"), lines, "", fault, 7)
+    yield Case(("get", "--lines", "--sort-keys", "--default", "0", "/a"), lines, "0\n1.1\n", fault, 7)
     yield Case(("get", "--lines", "--sort-keys", "--lossy", "/a"), lines, "[1.1,3.141592653589793]\n1.1\n")
     yield Case(("get", "--lines", "--sort-keys", "/a"), f"{{}}\n{lines}", "1.1\n",
-               f"jptr: standard input:1: {NOT_FOUND}\n" + fault.replace("input:1", "input:2"), 1)
-    yield Case(("format", "--lines", "--sort-keys"), lines, '{"a":1.1}\n', fault.replace("/1", "/a/1"), 1)
+               f"jptr: standard input:1: {NOT_FOUND}\n" + fault.replace("input:1", "input:2"), 7)
+    yield Case(("format", "--lines", "--sort-keys"), lines, '{"a":1.1}\n', fault.replace("/1", "/a/1"), 7)
     yield Case(("delete", "--lines", "--sort-keys", "/a"), lines, "{}\n{}\n")
-    yield Case(("set", "--lines", "--sort-keys", "/b", "1e-400"), '{"a": 1}', "", fault.replace("/1", "/b"), 1)
+    yield Case(("set", "--lines", "--sort-keys", "/b", "1e-400"), '{"a": 1}', "", fault.replace("/1", "/b"), 7)
     yield Case(("set", "--lines", "--compact", "/b", "1e-400"), lines, lines.replace("}", ', "b": 1e-400}').replace(" ", ""))
 
 
@@ -847,19 +1030,19 @@ def check_lines():
     report = "".join(f"jptr: standard input:{number}: {message}\n" for number, message in faults)
     damaged = "".join(f"jptr: standard input:{number}: {message}\n" for number, message in faults if message.startswith("text is not JSON"))
     each = "".join(f"{line}\n" for line in found)
-    check_result(Case(("get", "--lines", "/id"), text, each, report, 1), run(("get", "--lines", "/id"), text))
-    check_result(Case(("get", "--lines", "/id"), text[:-1], each, report, 1), run(("get", "--lines", "/id"), text[:-1]))
+    check_result(Case(("get", "--lines", "/id"), text, each, report, 7), run(("get", "--lines", "/id"), text))
+    check_result(Case(("get", "--lines", "/id"), text[:-1], each, report, 7), run(("get", "--lines", "/id"), text[:-1]))
     each = "".join(f"{line}\n" for line in changed)
-    check_result(Case(("set",), text, each, damaged, 1), run(("set", "--lines", "/id", "0"), text))
+    check_result(Case(("set",), text, each, damaged, 7), run(("set", "--lines", "/id", "0"), text))
     given = run(("get", "--lines", "--default", "null", "/id"), text)
-    if (given.stdout.count(b"\n"), given.stderr.decode(), given.returncode) != (LINES - lines.count(""), damaged, 1):
+    if (given.stdout.count(b"\n"), given.stderr.decode(), given.returncode) != (LINES - lines.count(""), damaged, 7):
         raise CheckFailed(f"--default: {given.stdout.count(10)} lines, status {given.returncode}")
     first = faults[0][0]
     each = "".join(f"{line}\n" for line in found[: first - 1])
     words = ("get", "--lines", "--strict", "/id")
-    check_result(Case(words, text, each, report.partition("\n")[0] + "\n", 1), run(words, text))
+    check_result(Case(words, text, each, report.partition("\n")[0] + "\n", 7), run(words, text))
     words = ("get", "--lines", "--raw", "/s")
-    check_result(Case(words, '{"s":"a"}\n{"s":"a\\nb"}\n', "a\n", "jptr: standard input:2: result contains a line break\n", 1),
+    check_result(Case(words, '{"s":"a"}\n{"s":"a\\nb"}\n', "a\n", "jptr: standard input:2: result contains a line break\n", 7),
                  run(words, '{"s":"a"}\n{"s":"a\\nb"}\n'))
     long = list(digits_of_lines())
     for case in long:
@@ -1028,7 +1211,7 @@ def check_in_place(folder):
         raise CheckFailed("in place: the link or the permissions did not stay")
     for words in [("delete", "/none"), ("delete", "/b", "/none"), ("set", "/b", "3", "/a~1b/9", "1")]:
         given = run((*words, path, "-i"))
-        if given.returncode != 1 or read(path) != TEXT.replace("1.0", "2"):
+        if given.returncode != (6 if "9" in words[-2] else 1) or read(path) != TEXT.replace("1.0", "2"):
             raise CheckFailed(f"in place, with an error: status {given.returncode}, {read(path)!r}")
     given = run(("set", "/c", "3", "/b", "4", path, "-i"))
     given = run(("delete", "/c", "/a~1b/0", path, "-i"))
@@ -1054,9 +1237,9 @@ def check_reformat(folder):
     error = f"{message}; --reformat prints the document anew\n"
     anew = text.replace(" ", "")
     for case in [
-        Case(words, text, "", f"jptr: standard input: {error}", 1),
-        Case((*words, path, "-i"), "", "", f"jptr: {path}: {error}", 1),
-        Case((*words, "--lines"), text, "", f"jptr: standard input:1: {message}\n", 1),
+        Case(words, text, "", f"jptr: standard input: {error}", 6),
+        Case((*words, path, "-i"), "", "", f"jptr: {path}: {error}", 6),
+        Case((*words, "--lines"), text, "", f"jptr: standard input:1: {message}\n", 7),
         Case((*words, "--check"), text, ""),
         Case((*words, "--compact"), text, anew),
         Case((*words, "--compact", "--lines"), text, anew),
@@ -1084,7 +1267,7 @@ def check_reformat_digits(path, words, text):
         Case((*words, "--compact"), text, "", f"jptr: standard input: {error}", 3),
         Case((*words, "--sort-keys"), text, "", f"jptr: standard input: {error}", 3),
         Case((*words, path, "-i", "--reformat"), "", "", f"jptr: {path}: {error}", 3),
-        Case((*words, "--compact", "--lines"), text, "", f"jptr: standard input:1: {error}", 1),
+        Case((*words, "--compact", "--lines"), text, "", f"jptr: standard input:1: {error}", 7),
         Case((*words, "--reformat", "--lossy"), text, anew),
         Case((*words, "--compact", "--lossy"), text, anew),
         Case((*words, "--compact", "--lines", "--lossy"), text, anew),
@@ -1106,7 +1289,7 @@ def check_patch_digits(words, text):
     write(shallow, '[{"op": "add", "path": "/a", "value": {"x": 1e-400}}]')
     for case in [
         Case((*words, "--reformat"), text, "", error, 3),
-        Case((*words, "--compact", "--lines"), text, "", error.replace("jptr:", "jptr: standard input:1:"), 1),
+        Case((*words, "--compact", "--lines"), text, "", error.replace("jptr:", "jptr: standard input:1:"), 7),
         Case((*words, "--reformat", "--lossy"), text, anew),
         Case(("patch", shallow), "{}", '{"a":{"x":1e-400}}'),
         Case(("patch", shallow, "--compact"), "{ }", '{"a":{"x":1e-400}}\n'),
@@ -1226,7 +1409,8 @@ def check_drawings(folder):
 CHANGES = [
     ("1", "2", '~ "": 1 -> 2\n'),
     ('{"a": 1, "b/c": [1, 2, 3], "d": null}', '{"a": {"x": "y"}, "b/c": [1, 3], "e": []}', '~ /a: 1 -> {"x":"y"}\n- /b~1c/1: 2\n- /d: null\n+ /e: []\n'),
-    ('{"a\\nb": 1}', '{"a\\nb": true}', "~ /a\\nb: 1 -> true\n"),
+    ('{"a\\nb": 1}', '{"a\\nb": true}', '~ "/a\\nb": 1 -> true\n'),
+    ('{"\\u001b": "\x7f\x9b"}', '{"\\u001b": 1}', '~ "/\\u001b": "\\u007f\\u009b" -> 1\n'),
     ("[1]", "[1]", ""),
 ]
 
@@ -1243,8 +1427,8 @@ def check_commented(folder):
     check_result(Case((), "", ""), run(("set", "/a", "2", marked, "-i")))
     check_result(Case((), "", ""), run(("format", marked, "-i")))
     error = f"jptr: {path}: the document has comments or trailing commas, which another layout would lose\n"
-    check_result(Case((), "", "", error, 1), run(("format", path, "-i")))
-    check_result(Case((), "", "", error, 1), run(("relayout", path, marked)))
+    check_result(Case((), "", "", error, 6), run(("format", path, "-i")))
+    check_result(Case((), "", "", error, 6), run(("relayout", path, marked)))
     check_result(Case((), "", "- /b: [1,2]\n", "", 1), run(("diff", "--text", path, marked)))
     check_result(Case((), "", ""), run(("insert", "/b/0", "0", path, "-i")))
     patch, undo = f"{folder}/patch.json", f"{folder}/undo.json"
@@ -1367,7 +1551,7 @@ def check_inverse_fails(folder, patch, path, undo):
     runs = 0
     for old in (None, "{}"):
         for text, operations, words, errors, status in [
-            (deepest, '[{"op": "remove", "path": ""}]', (), f"jptr: {undo}: patch would nest deeper than 127\n", 3),
+            (deepest, '[{"op": "remove", "path": ""}]', (), f"jptr: {undo}: patch would nest deeper than 127\n", 6),
             (BEFORE, '[{"op": "remove", "path": "/x"}]', (), f"jptr: {path}: patch failed at operation 0: {NOT_FOUND}\n/x\n ^ not found in value\n", 1),
             ("{", "[]", (), f"jptr: {path}: {OPEN}", 3),
             ('{"a": 1e-400}', "[]", (), f"jptr: {path}: the number at /a loses digits: use --lossy\n", 3),
@@ -1571,9 +1755,10 @@ def main():
         shim = build_shim(folder)
         # First, and alone: a process that another thread starts can hold the end of a pipe that is closed here.
         runs = check_streams() + check_usage()
-        for name in ["files", "in_place", "inverse", "drawings", "changes", "commented", "layouts", "long", "guide", "completions", "missing"]:
+        for name in ["files", "in_place", "inverse", "drawings", "changes", "commented", "layouts", "long", "guide", "completions", "missing", "statuses"]:
             os.mkdir(f"{folder}/{name}")
         runs += check_completions(f"{folder}/completions")
+        runs += check_statuses(f"{folder}/statuses", shim) + check_help_examples(f"{folder}/statuses")
         runs += check_missing_value(f"{folder}/missing")
         runs += check_files(f"{folder}/files") + check_in_place(f"{folder}/in_place") + check_lines()
         runs += check_inverse(f"{folder}/inverse", shim) + check_relayout(f"{folder}/layouts", shim)

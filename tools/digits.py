@@ -3,9 +3,9 @@
     tools/digits.py [PAIRS]               2,000 pairs if no number is given
     tools/digits.py --library [PAIRS]     the same by the Python module jsonptr, which tools/c/build made
 
-Of each pair, `jptr diff OLD NEW` either fails, with a pointer that leads to a number whose nearest double has another decimal
-value, or its patch makes of OLD a document whose numbers have the decimal values of NEW, exactly. With --lossy it never fails.
-Of the module, a document that is read with exact numbers fails so. Python's `decimal` and `json` are the judges.
+Of each pair, the patch of `jptr diff OLD NEW` makes of OLD a document whose numbers have the decimal values of NEW, exactly. Or
+it fails, with a pointer that leads to a number whose nearest double has another decimal value; then the patch that --lossy
+prints makes a document with other decimal values. With --lossy it never fails. Of the module, a document that is read with exact numbers fails so. Python's `decimal` and `json` are the judges.
 """
 import functools
 import importlib
@@ -63,6 +63,11 @@ def values(text):
     return json.loads(text, parse_float=Decimal, parse_int=Decimal)
 
 
+def numbers(text):
+    """Returns the texts of the numbers of a document."""
+    return re.findall(r"-?\d+(?:\.\d+)?(?:[eE][-+]?\d+)?", re.sub(r'"[^"]*"', "", text))
+
+
 def resolve(text, pointer):
     """Returns the text of the number at the pointer."""
     value = json.loads(text, parse_float=lambda raw: ("number", raw), parse_int=lambda raw: ("number", raw))
@@ -89,6 +94,8 @@ def pair(seed):
     before, after = document(random, exact=exact), document(random, exact=exact)
     if random.random() < 0.5:
         after = changed(random, before, exact)
+    elif random.random() < 0.5:
+        after = changed(random, spelled(random, before), random.random() < 0.5)
     return before, after
 
 
@@ -108,6 +115,18 @@ def check_pair(folder, seed):
     return given.returncode == 3
 
 
+def spelled(random, text):
+    """Returns the document with some of its numbers written in another way, or with another digit."""
+    def other(found):
+        raw = found[0]
+        if random.random() < 0.7 or found[1]:
+            return raw
+        if random.random() < 0.2:
+            return raw[:-1] + random.choice("123456789")
+        return raw + ("0" if "." in raw else ".0") + random.choice(["", "00"]) if "e" not in raw.lower() else raw
+    return re.sub(r'("[^"]*")|-?\d+(?:\.\d+)?(?:[eE][-+]?\d+)?', other, text)
+
+
 def changed(random, text, exact):
     """Returns the document with one member or element more."""
     more = document(random, 1, exact)
@@ -124,11 +143,14 @@ def judge(given, texts, old, before, new, after):
         error = ERROR.fullmatch(given.stderr)
         if not error or error[1] not in texts or before == after:
             raise CheckFailed(f"diff of {before} and {after}: {given.stderr!r}")
-        if not loses(resolve(texts[error[1]], error[2] or "")):
+        if not any(map(loses, numbers(texts[error[1]]) if ": a number" in given.stderr else [resolve(texts[error[1]], error[2] or "")])):
             raise CheckFailed(f"diff of {before} and {after}: {given.stderr!r}, where no digit is lost")
         lossy = run("diff", "--lossy", old, new)
         if lossy.returncode not in (0, 1):
             raise CheckFailed(f"diff --lossy of {before} and {after}: {lossy.stderr!r}")
+        patched = run("patch", "-", old, stdin=lossy.stdout)
+        if patched.returncode == 0 and values(patched.stdout) == values(after):
+            raise CheckFailed(f"diff of {before} and {after}: {given.stderr!r}, but {lossy.stdout} loses no digit")
         return
     if given.returncode not in (0, 1):
         raise CheckFailed(f"diff of {before} and {after}: status {given.returncode}, {given.stderr!r}")

@@ -154,9 +154,12 @@ def failures_with_inverse():
 
 def changed_meanwhile():
     """Somebody else writes to the file while the program works: nothing is written."""
-    for other in ("write", "replace", "remove"):
+    # A text of the same length, whose time of modification is set back.
+    blank = f"[{' ' * (len(OLD) - 3)}]\n"
+    for other in ("write", "replace", "set back", "remove"):
         with tempfile.TemporaryDirectory() as folder:
             path = file_in(folder)
+            before = os.stat(path)
             edit = ["strace", "-f", "-o", "/dev/null", "-e", "trace=fsync", "-e", "inject=fsync:delay_enter=700000:when=1",
                     PROGRAM, *SET, path, "--in-place"]
             with subprocess.Popen(edit, stdout=subprocess.PIPE, stderr=subprocess.PIPE, text=True) as process:
@@ -166,6 +169,9 @@ def changed_meanwhile():
                     file_in(folder, "[]\n")
                 elif other == "replace":
                     os.rename(file_in(folder, "[]\n", "other"), path)
+                elif other == "set back":
+                    file_in(folder, blank)
+                    os.utime(path, ns=(before.st_atime_ns, before.st_mtime_ns))
                 else:
                     os.remove(path)
                 errors = process.communicate(timeout=SECONDS)[1]
@@ -173,7 +179,7 @@ def changed_meanwhile():
             if other == "remove":
                 expect("removed meanwhile: files", os.listdir(folder), [])
             else:
-                expect(f"{other} meanwhile: text", text_of(path), "[]\n")
+                expect(f"{other} meanwhile: text", text_of(path), blank if other == "set back" else "[]\n")
                 if CHANGED not in errors:
                     raise CheckFailed(f"{other} meanwhile: {errors!r}")
                 expect(f"{other} meanwhile: files", os.listdir(folder), ["f.json"])

@@ -1,35 +1,22 @@
 //! The command line: the commands, and the arguments and flags of each.
 
+use crate::help::{COMMANDS, about_of, example_of};
 use clap::{Arg, ArgAction, Command};
 use std::alloc::{AllocError, Global};
 
 /// The version of the project, as in `crates/jsonptr/VERSION`.
 const VERSION: &str = "0.3.0-dev";
 
-/// The names of the commands, in the order of the help.
-const COMMANDS: [&str; 21] = [
-    "get",
-    "set",
-    "delete",
-    "insert",
-    "move",
-    "copy",
-    "rename",
-    "keys",
-    "length",
-    "type",
-    "test",
-    "paths",
-    "from-paths",
-    "patch",
-    "format",
-    "relayout",
-    "locate",
-    "diff",
-    "tokens",
-    "escape",
-    "unescape",
-];
+/// What `--sort-keys` does where a result keeps its layout otherwise.
+const SORTED: &str =
+    "Sorts the members, and prints numbers anew; without white space, or as --pretty does";
+
+/// What the second pointer of `move` is.
+const MOVED_TO: &str =
+    "The pointer where it is put, as by insert; an index counts without the moved value";
+
+/// What the second pointer of `copy` is.
+const COPIED_TO: &str = "The pointer where it is put, as by insert";
 
 /// An argument or a flag of a command.
 #[derive(Clone, Copy)]
@@ -162,70 +149,74 @@ impl Argument {
     }
 }
 
-/// Returns the command line of the program.
-pub fn command<'a>(alloc: Global) -> Result<Command<'a>, AllocError> {
-    let mut command = program(alloc)?;
+/// Returns the command line of the program, which has this help.
+pub fn command<'a>(alloc: Global, help: &'a str) -> Result<Command<'a>, AllocError> {
+    let mut command = program(alloc, help)?;
     for name in COMMANDS {
-        command = command.subcommand(command_named(alloc, name)?)?;
+        command = command.subcommand(command_of(alloc, name)?)?;
     }
     Ok(command)
 }
 
 /// Returns the program without its commands.
-fn program<'a>(alloc: Global) -> Result<Command<'a>, AllocError> {
+fn program<'a>(alloc: Global, help: &'a str) -> Result<Command<'a>, AllocError> {
     Ok(
         Command::new(alloc, "jptr")
             .bin_name("jptr")?
             .version(VERSION)
-            .about("Finds and changes values of JSON documents by JSON Pointers")
+            .override_help(help)
             .subcommand_required(true)
             .arg_required_else_help(true),
     )
 }
 
 /// Returns the command with this name.
-fn command_named<'a>(alloc: Global, name: &'static str) -> Result<Command<'a>, AllocError> {
+fn command_of<'a>(alloc: Global, name: &'static str) -> Result<Command<'a>, AllocError> {
+    let command = Command::new(alloc, name)
+        .about(about_of(name))
+        .after_help(example_of(name));
+    with_own_arguments(alloc, name, command)
+}
+
+/// Adds the arguments and flags of the command with this name.
+fn with_own_arguments<'a>(
+    alloc: Global,
+    name: &str,
+    command: Command<'a>,
+) -> Result<Command<'a>, AllocError> {
     match name {
-        "get" => get(alloc),
-        "set" => set(alloc),
-        "delete" => delete(alloc),
-        "insert" => insert(alloc),
-        "move" => transfer(
-            alloc,
-            name,
-            "Prints the document with a value moved to another pointer",
-        ),
-        "copy" => transfer(
-            alloc,
-            name,
-            "Prints the document with a copy of a value at another pointer",
-        ),
-        "rename" => rename(alloc),
-        "keys" => keys(alloc),
-        "length" => length(alloc),
-        "type" => node_type(alloc),
-        "test" => test(alloc),
-        "paths" => paths(alloc),
-        "from-paths" => from_paths(alloc),
-        "patch" => patch(alloc),
-        "format" => format(alloc),
-        "relayout" => relayout(alloc),
-        "locate" => locate(alloc),
-        "diff" => diff(alloc),
-        "tokens" => tokens(alloc),
-        "escape" => escape(alloc),
-        _ => unescape(alloc),
+        "get" => get(alloc, command),
+        "set" => set(alloc, command),
+        "delete" => delete(alloc, command),
+        "insert" => insert(alloc, command),
+        "move" => transfer(alloc, command, MOVED_TO),
+        "copy" => transfer(alloc, command, COPIED_TO),
+        "rename" => rename(alloc, command),
+        "keys" => keys(alloc, command),
+        "length" | "type" => with_arguments(alloc, command, &[pointer(), file(), comments_flag()]),
+        "test" => test(alloc, command),
+        "paths" => paths(alloc, command),
+        "from-paths" => from_paths(alloc, command),
+        "patch" => patch(alloc, command),
+        "format" => format(alloc, command),
+        "relayout" => relayout(alloc, command),
+        "locate" => locate(alloc, command),
+        "diff" => diff(alloc, command),
+        "tokens" => tokens(alloc, command),
+        "escape" => with_word(alloc, command, "TEXT", "The text"),
+        _ => with_word(alloc, command, "TOKEN", "The token"),
     }
 }
 
-/// Returns the command with this name and these arguments.
-fn command_of<'a>(
+/// Adds an argument that is any word, also after a dash.
+fn with_word<'a>(
     alloc: Global,
+    command: Command<'a>,
     name: &'static str,
-    about: &'static str,
-    arguments: &[Argument],
+    help: &'static str,
 ) -> Result<Command<'a>, AllocError> {
-    with_arguments(alloc, Command::new(alloc, name).about(about), arguments)
+    let word = required(name, help).taking(Dashed::Words);
+    with_arguments(alloc, command, &[word])
 }
 
 /// Adds the arguments to the command, in order.
@@ -241,8 +232,8 @@ fn with_arguments<'a>(
     Ok(command)
 }
 
-/// Returns the command `get`.
-fn get<'a>(alloc: Global) -> Result<Command<'a>, AllocError> {
+/// Adds what `get` takes.
+fn get<'a>(alloc: Global, command: Command<'a>) -> Result<Command<'a>, AllocError> {
     let default = Argument::new(
         "default",
         Kind::Value("JSON"),
@@ -250,10 +241,9 @@ fn get<'a>(alloc: Global) -> Result<Command<'a>, AllocError> {
     );
     let object = flag("object", "Prints one object, with the pointers as its keys");
     let raw = flag("raw", "Prints a string without quotes");
-    let command = command_of(
+    let command = with_arguments(
         alloc,
-        "get",
-        "Prints the value that the pointer resolves to, or those of several pointers",
+        command,
         &[
             pointer(),
             files(),
@@ -263,11 +253,14 @@ fn get<'a>(alloc: Global) -> Result<Command<'a>, AllocError> {
             toml_flag(),
         ],
     )?;
-    with_comments(alloc, with_lines(alloc, with_order(alloc, command)?)?)
+    with_comments(
+        alloc,
+        with_lines(alloc, with_order(alloc, command, SORTED)?)?,
+    )
 }
 
-/// Returns the command `set`.
-fn set<'a>(alloc: Global) -> Result<Command<'a>, AllocError> {
+/// Adds what `set` takes.
+fn set<'a>(alloc: Global, command: Command<'a>) -> Result<Command<'a>, AllocError> {
     let more = Argument::new(
         "FILE",
         Kind::Several,
@@ -278,10 +271,9 @@ fn set<'a>(alloc: Global) -> Result<Command<'a>, AllocError> {
         "Creates no container on the way to the value, and replaces no scalar there",
     );
     let create = flag("create", "Makes the document if FILE is missing");
-    let command = command_of(
+    let command = with_arguments(
         alloc,
-        "set",
-        "Prints the document with the value assigned at the pointer, or several values",
+        command,
         &[
             pointer(),
             value(),
@@ -296,88 +288,57 @@ fn set<'a>(alloc: Global) -> Result<Command<'a>, AllocError> {
     with_comments(alloc, with_edits(alloc, command)?)
 }
 
-/// Returns the command `delete`.
-fn delete<'a>(alloc: Global) -> Result<Command<'a>, AllocError> {
-    let command = command_of(
+/// Adds what `delete` takes.
+fn delete<'a>(alloc: Global, command: Command<'a>) -> Result<Command<'a>, AllocError> {
+    let command = with_arguments(
         alloc,
-        "delete",
-        "Prints the document without the value that the pointer resolves to, or without several",
+        command,
         &[pointer(), files(), toml_flag(), toml_reformat_flag()],
     )?;
     with_comments(alloc, with_edits(alloc, command)?)
 }
 
-/// Returns the command `insert`.
-fn insert<'a>(alloc: Global) -> Result<Command<'a>, AllocError> {
-    let command = command_of(
+/// Adds what `insert` takes.
+fn insert<'a>(alloc: Global, command: Command<'a>) -> Result<Command<'a>, AllocError> {
+    let command = with_arguments(
         alloc,
-        "insert",
-        "Prints the document with the value inserted before the element at the pointer, or added as a member",
+        command,
         &[pointer(), value(), file(), string_flag(), reformat_flag()],
     )?;
     with_comments(alloc, with_edits(alloc, command)?)
 }
 
-/// Returns the command `move` or `copy`.
+/// Adds what `move` or `copy` takes; the help is that of the second pointer.
 fn transfer<'a>(
     alloc: Global,
-    name: &'static str,
-    about: &'static str,
+    command: Command<'a>,
+    help: &'static str,
 ) -> Result<Command<'a>, AllocError> {
     let from = required("FROM", "The pointer of the value");
-    let path = required(
-        "POINTER",
-        "The pointer where it is put, as by insert; an index counts without a moved value",
-    );
-    let command = command_of(alloc, name, about, &[from, path, file(), reformat_flag()])?;
+    let path = required("POINTER", help);
+    let command = with_arguments(alloc, command, &[from, path, file(), reformat_flag()])?;
     with_comments(alloc, with_edits(alloc, command)?)
 }
 
-/// Returns the command `rename`.
-fn rename<'a>(alloc: Global) -> Result<Command<'a>, AllocError> {
+/// Adds what `rename` takes.
+fn rename<'a>(alloc: Global, command: Command<'a>) -> Result<Command<'a>, AllocError> {
     let key = required("KEY", "The new key, as it is").taking(Dashed::Words);
-    let command = command_of(
+    let command = with_arguments(
         alloc,
-        "rename",
-        "Prints the document with another key for the member at the pointer, which then comes last",
+        command,
         &[pointer(), key, file(), comments_flag(), reformat_flag()],
     )?;
-    with_in_place(alloc, with_order(alloc, command)?)
+    with_in_place(alloc, with_order(alloc, command, SORTED)?)
 }
 
-/// Returns the command `keys`.
-fn keys<'a>(alloc: Global) -> Result<Command<'a>, AllocError> {
+/// Adds what `keys` takes.
+fn keys<'a>(alloc: Global, command: Command<'a>) -> Result<Command<'a>, AllocError> {
     let raw = flag("raw", "Prints each key without quotes");
-    command_of(
-        alloc,
-        "keys",
-        "Prints the keys of the object that the pointer resolves to, each on a line",
-        &[pointer(), file(), raw, comments_flag()],
-    )
+    with_arguments(alloc, command, &[pointer(), file(), raw, comments_flag()])
 }
 
-/// Returns the command `length`.
-fn length<'a>(alloc: Global) -> Result<Command<'a>, AllocError> {
-    command_of(
-        alloc,
-        "length",
-        "Prints the number of elements, members or characters of the value",
-        &[pointer(), file(), comments_flag()],
-    )
-}
-
-/// Returns the command `type`.
-fn node_type<'a>(alloc: Global) -> Result<Command<'a>, AllocError> {
-    command_of(
-        alloc,
-        "type",
-        "Prints the type of the value: null, boolean, number, string, array or object",
-        &[pointer(), file(), comments_flag()],
-    )
-}
-
-/// Returns the command `test`.
-fn test<'a>(alloc: Global) -> Result<Command<'a>, AllocError> {
+/// Adds what `test` takes.
+fn test<'a>(alloc: Global, command: Command<'a>) -> Result<Command<'a>, AllocError> {
     let value = optional(
         "JSON",
         "The value to compare with, or @FILE for that of a file; a file whose name is no JSON is FILE",
@@ -386,10 +347,9 @@ fn test<'a>(alloc: Global) -> Result<Command<'a>, AllocError> {
         "string",
         "Takes JSON as a string, without quotes and escapes",
     );
-    command_of(
+    with_arguments(
         alloc,
-        "test",
-        "Prints nothing. The exit status is 0 if the value is there, and equals JSON if that is given, and else 1",
+        command,
         &[
             pointer(),
             value.taking(Dashed::Numbers),
@@ -400,8 +360,8 @@ fn test<'a>(alloc: Global) -> Result<Command<'a>, AllocError> {
     )
 }
 
-/// Returns the command `paths`.
-fn paths<'a>(alloc: Global) -> Result<Command<'a>, AllocError> {
+/// Adds what `paths` takes.
+fn paths<'a>(alloc: Global, command: Command<'a>) -> Result<Command<'a>, AllocError> {
     let all = flag(
         "all",
         "Prints a line for each node, from which from-paths makes the document",
@@ -410,10 +370,9 @@ fn paths<'a>(alloc: Global) -> Result<Command<'a>, AllocError> {
         "toml",
         "Takes TOML, as for a file whose name ends in .toml, and prints TOML values",
     );
-    command_of(
+    with_arguments(
         alloc,
-        "paths",
-        "Prints a line for each leaf: its pointer, a tab, and its value",
+        command,
         &[
             file(),
             all,
@@ -424,23 +383,18 @@ fn paths<'a>(alloc: Global) -> Result<Command<'a>, AllocError> {
     )
 }
 
-/// Returns the command `from-paths`.
-fn from_paths<'a>(alloc: Global) -> Result<Command<'a>, AllocError> {
+/// Adds what `from-paths` takes.
+fn from_paths<'a>(alloc: Global, command: Command<'a>) -> Result<Command<'a>, AllocError> {
     let fill = flag(
         "fill",
         "Adds null for each element that is missing in an array",
     );
-    let command = command_of(
-        alloc,
-        "from-paths",
-        "Prints the document that lines of pointers, tabs and JSON values build",
-        &[file(), fill],
-    )?;
+    let command = with_arguments(alloc, command, &[file(), fill])?;
     with_layout(alloc, command)
 }
 
-/// Returns the command `patch`.
-fn patch<'a>(alloc: Global) -> Result<Command<'a>, AllocError> {
+/// Adds what `patch` takes.
+fn patch<'a>(alloc: Global, command: Command<'a>) -> Result<Command<'a>, AllocError> {
     let patch = required("PATCHFILE", "The patch document, or - for standard input");
     let check = flag(
         "check",
@@ -451,10 +405,9 @@ fn patch<'a>(alloc: Global) -> Result<Command<'a>, AllocError> {
         Kind::Value("UNDO"),
         "Writes the patch that takes this one back to this file",
     );
-    let command = command_of(
+    let command = with_arguments(
         alloc,
-        "patch",
-        "Prints the document after a JSON Patch (RFC 6902); errors count its operations from 0",
+        command,
         &[
             patch,
             file(),
@@ -466,19 +419,16 @@ fn patch<'a>(alloc: Global) -> Result<Command<'a>, AllocError> {
     with_comments(alloc, with_edits(alloc, command)?)
 }
 
-/// Returns the command `format`.
-fn format<'a>(alloc: Global) -> Result<Command<'a>, AllocError> {
-    let command = command_of(
-        alloc,
-        "format",
-        "Prints the document with a line for each member and element",
-        &[file()],
-    )?;
-    with_comments(alloc, with_edits(alloc, command)?)
+/// Adds what `format` takes.
+fn format<'a>(alloc: Global, command: Command<'a>) -> Result<Command<'a>, AllocError> {
+    let sorted = "Sorts the members, and prints numbers anew";
+    let command = with_arguments(alloc, command, &[file()])?;
+    let command = with_in_place(alloc, with_order(alloc, command, sorted)?)?;
+    with_comments(alloc, with_lines(alloc, command)?)
 }
 
-/// Returns the command `relayout`.
-fn relayout<'a>(alloc: Global) -> Result<Command<'a>, AllocError> {
+/// Adds what `relayout` takes.
+fn relayout<'a>(alloc: Global, command: Command<'a>) -> Result<Command<'a>, AllocError> {
     let old = required("FILE", "The file with the layout, or - for standard input");
     let new = optional(
         "NEW",
@@ -488,10 +438,9 @@ fn relayout<'a>(alloc: Global) -> Result<Command<'a>, AllocError> {
         "reformat",
         "Takes a document as it is that cannot be laid out as the file",
     );
-    command_of(
+    with_arguments(
         alloc,
-        "relayout",
-        "Prints a new document in the layout of the file that it was made from",
+        command,
         &[
             old,
             new,
@@ -503,74 +452,48 @@ fn relayout<'a>(alloc: Global) -> Result<Command<'a>, AllocError> {
     )
 }
 
-/// Returns the command `locate`.
-fn locate<'a>(alloc: Global) -> Result<Command<'a>, AllocError> {
+/// Adds what `locate` takes.
+fn locate<'a>(alloc: Global, command: Command<'a>) -> Result<Command<'a>, AllocError> {
     let pointer = optional("POINTER", "The JSON Pointer (RFC 6901), as /a/0");
     let at = Argument::new(
         "at",
         Kind::Value("LINE:COLUMN"),
         "Prints the pointer of the innermost value at this position instead, of the object if that is a key; FILE is then the only argument",
     );
-    command_of(
-        alloc,
-        "locate",
-        "Prints where the value is that the pointer resolves to: the file, its line and its column",
-        &[pointer, file(), at, comments_flag()],
-    )
+    with_arguments(alloc, command, &[pointer, file(), at, comments_flag()])
 }
 
-/// Returns the command `diff`.
-fn diff<'a>(alloc: Global) -> Result<Command<'a>, AllocError> {
+/// Adds what `diff` takes.
+fn diff<'a>(alloc: Global, command: Command<'a>) -> Result<Command<'a>, AllocError> {
     let old = required("OLD", "The document before, or - for standard input");
     let new = required("NEW", "The document after, or - for standard input");
+    let color = Argument::new(
+        "color",
+        Kind::Value("WHEN"),
+        "Colours the lines of --text: always, never, or auto, on a terminal if NO_COLOR is empty or not set",
+    );
     let text = flag(
         "text",
         "Prints a line for each change instead: its pointer, and the values before and after it",
     );
-    let command = command_of(
+    let command = with_arguments(
         alloc,
-        "diff",
-        "Prints a JSON Patch (RFC 6902) that turns one document into another. The exit status is 1 if they differ",
+        command,
         &[
             old,
             new,
             text.excluding("pretty compact"),
-            color_flag().needing("text"),
+            color.needing("text"),
             comments_flag(),
         ],
     )?;
     with_layout(alloc, command)
 }
 
-/// Returns the command `tokens`.
-fn tokens<'a>(alloc: Global) -> Result<Command<'a>, AllocError> {
+/// Adds what `tokens` takes.
+fn tokens<'a>(alloc: Global, command: Command<'a>) -> Result<Command<'a>, AllocError> {
     let raw = flag("raw", "Prints each token as a line, without quotes");
-    command_of(
-        alloc,
-        "tokens",
-        "Prints the tokens of the pointer, decoded, as a JSON array",
-        &[pointer(), raw],
-    )
-}
-
-/// Returns the command `escape`.
-fn escape<'a>(alloc: Global) -> Result<Command<'a>, AllocError> {
-    command_of(
-        alloc,
-        "escape",
-        "Prints the text as a token of a pointer, with ~0 for ~ and ~1 for /",
-        &[required("TEXT", "The text").taking(Dashed::Words)],
-    )
-}
-
-/// Returns the command `unescape`.
-fn unescape<'a>(alloc: Global) -> Result<Command<'a>, AllocError> {
-    command_of(
-        alloc,
-        "unescape",
-        "Prints the text of a token of a pointer",
-        &[required("TOKEN", "The token").taking(Dashed::Words)],
-    )
+    with_arguments(alloc, command, &[pointer(), raw])
 }
 
 /// Adds the flag for JSON with comments to a command that takes lines.
@@ -589,12 +512,13 @@ fn with_layout<'a>(alloc: Global, command: Command<'a>) -> Result<Command<'a>, A
     )
 }
 
-/// Adds the flags for the layout of a text, for the order of its members, and for colours.
-fn with_order<'a>(alloc: Global, command: Command<'a>) -> Result<Command<'a>, AllocError> {
-    let sort = flag(
-        "sort-keys",
-        "Sorts the members; prints without white space, or as --pretty does",
-    );
+/// Adds the flags for the layout of a text, for the order of its members with this help, and for colours.
+fn with_order<'a>(
+    alloc: Global,
+    command: Command<'a>,
+    sorted: &'static str,
+) -> Result<Command<'a>, AllocError> {
+    let sort = flag("sort-keys", sorted);
     let indent = Argument::new(
         "indent",
         Kind::Value("N"),
@@ -629,7 +553,7 @@ fn with_lines<'a>(alloc: Global, command: Command<'a>) -> Result<Command<'a>, Al
 
 /// Adds the flags of a command that edits, or lays out, and takes lines.
 fn with_edits<'a>(alloc: Global, command: Command<'a>) -> Result<Command<'a>, AllocError> {
-    let command = with_in_place(alloc, with_order(alloc, command)?)?;
+    let command = with_in_place(alloc, with_order(alloc, command, SORTED)?)?;
     with_lines(alloc, command)
 }
 
@@ -674,7 +598,8 @@ fn files() -> Argument {
 
 /// Returns the argument for the value.
 fn value() -> Argument {
-    let help = "The value, or @FILE for that of a file, @- of standard input";
+    let help =
+        "The value, or @FILE for that of a file, @- of standard input; for TOML a TOML value, which is printed anew";
     required("JSON", help).taking(Dashed::Numbers)
 }
 

@@ -1,6 +1,7 @@
 //! The changes of a difference, a line each.
 
-use crate::program_error::{ProgramError, shown};
+use crate::program_error::ProgramError;
+use crate::shown::{is_unprintable, shown};
 use jptr_tasks::layout::{Layout, show};
 use jptr_tasks::patch::operations_of;
 use jsonptr::{Fault, PointerBuf};
@@ -38,7 +39,7 @@ pub fn changes_of(alloc: Global, document: Value, patch: &str) -> Result<String,
 fn change(alloc: Global, document: &Value, operation: &Operation) -> Result<String, AllocError> {
     match operation {
         Operation::Add { path, value } => {
-            let new = show(alloc, value, Layout::Compact)?;
+            let new = shown_value(alloc, value)?;
             let path = shown_pointer(alloc, path)?;
             format!(in alloc; "+ {path}: {new}\n")
         }
@@ -49,7 +50,7 @@ fn change(alloc: Global, document: &Value, operation: &Operation) -> Result<Stri
         }
         Operation::Replace { path, value } => {
             let old = value_at(alloc, document, path)?;
-            let new = show(alloc, value, Layout::Compact)?;
+            let new = shown_value(alloc, value)?;
             let path = shown_pointer(alloc, path)?;
             format!(in alloc; "~ {path}: {old} -> {new}\n")
         }
@@ -57,20 +58,26 @@ fn change(alloc: Global, document: &Value, operation: &Operation) -> Result<Stri
     }
 }
 
-/// Returns the pointer as it is shown, or two quotes for the root.
+/// Returns the pointer as it is shown: as `paths` prints it, or two quotes for the root.
 fn shown_pointer(alloc: Global, pointer: &PointerBuf) -> Result<String, AllocError> {
     let pointer = pointer.as_ptr();
-    if pointer.is_root() {
-        return String::from_str(alloc, "\"\"");
+    if !pointer.is_root() && !pointer.as_str().chars().any(is_unprintable) {
+        return String::from_str(alloc, pointer.as_str());
     }
-    shown(alloc, pointer.as_str())
+    shown_value(alloc, &pointer.to_json_value(alloc)?)
 }
 
 /// Returns the text of the value that the pointer resolves to in the document.
 fn value_at(alloc: Global, document: &Value, pointer: &PointerBuf) -> Result<String, AllocError> {
     match pointer.as_ptr().resolve(alloc, document) {
-        Ok(found) => show(alloc, found, Layout::Compact),
+        Ok(found) => shown_value(alloc, found),
         Err(Fault::Refused(_)) => Ok(String::new(alloc)),
         Err(Fault::Memory(error)) => Err(error),
     }
+}
+
+/// Returns the JSON text of a value as it is shown.
+fn shown_value(alloc: Global, value: &Value) -> Result<String, AllocError> {
+    let text = show(alloc, value, Layout::Compact)?;
+    shown(alloc, text.as_str())
 }

@@ -1,14 +1,15 @@
 //! The commands.
 
-use crate::changes::changes_of;
-use crate::colors::{are_colored, colored};
-use crate::digits::{check_bytes, is_lossy};
+use crate::difference::diff;
+use crate::help::help;
 use crate::input::is_standard;
 use crate::inverse::patch_with_inverse;
 use crate::locate::locate;
 use crate::long_patch::patch_long;
 use crate::node::{print_node, test};
-use crate::operands::{argument, check_json, is_toml_name, more_operands, pointer_of};
+use crate::operands::{
+    argument, check_json, check_last_word, is_toml_name, more_operands, pointer_of,
+};
 use crate::operation::{insert, rename, transfer};
 use crate::output::{print_line, print_text};
 use crate::patch_file::PatchFile;
@@ -17,13 +18,12 @@ use crate::program_error::ProgramError;
 use crate::relayout::relayout;
 use crate::several::{delete_each, get_each, get_task, set_each, set_task};
 use crate::source::{FileFormat, Source};
-use crate::style::{layout_of, style_of};
+use crate::style::style_of;
 use crate::task::{on_source, run_styled, run_task};
 use crate::{arguments, toml_file};
 use clap::error::ErrorKind;
 use clap::{ArgMatches, Error};
-use jptr_tasks::difference::difference_of;
-use jptr_tasks::exit_status::{NOT_APPLIED, USAGE};
+use jptr_tasks::exit_status::USAGE;
 use jptr_tasks::layout::{Layout, show};
 use jptr_tasks::task::Task;
 use jsonptr::{Pointer, Token};
@@ -35,7 +35,8 @@ use std::{env, io};
 /// Runs the program, and returns its exit status.
 pub fn run(rt: &HostRuntime) -> Result<u8, ProgramError> {
     let words = words(rt)?;
-    match arguments::command(rt.alloc())?.try_get_matches_from(words.as_slice()) {
+    let help = help(rt.alloc())?;
+    match arguments::command(rt.alloc(), help.as_str())?.try_get_matches_from(words.as_slice()) {
         Ok(matches) => match matches.subcommand() {
             Some((command, matches)) => run_command(rt, matches, command),
             None => Ok(USAGE),
@@ -61,9 +62,10 @@ fn show_usage(rt: &HostRuntime, error: &Error) -> Result<u8, ProgramError> {
     if error.kind() == ErrorKind::OutOfMemory {
         return Err(ProgramError::Memory);
     }
-    let text = error.to_string(rt.alloc())?;
+    let alloc = rt.alloc();
+    let text = error.to_string(alloc)?;
     if error.use_stderr() {
-        return Err(ProgramError::Other(USAGE, text));
+        return Err(ProgramError::of_usage(alloc, text.as_str()));
     }
     print_text(rt, text.as_str())?;
     Ok(0)
@@ -101,6 +103,7 @@ fn run_command(
 /// Finds a value, or several.
 fn get(rt: &HostRuntime, matches: &ArgMatches<'_>) -> Result<u8, ProgramError> {
     let alloc = rt.alloc();
+    check_last_word(rt, matches)?;
     let more = more_operands(alloc, matches)?;
     if !more.is_empty() || matches.get_flag("object") {
         return get_each(rt, matches, more.as_slice());
@@ -129,6 +132,7 @@ fn set(rt: &HostRuntime, matches: &ArgMatches<'_>) -> Result<u8, ProgramError> {
 
 /// Deletes a value, or several.
 fn delete(rt: &HostRuntime, matches: &ArgMatches<'_>) -> Result<u8, ProgramError> {
+    check_last_word(rt, matches)?;
     let more = more_operands(rt.alloc(), matches)?;
     if !more.is_empty() {
         return delete_each(rt, matches, more.as_slice());
@@ -150,7 +154,12 @@ fn patch(rt: &HostRuntime, matches: &ArgMatches<'_>) -> Result<u8, ProgramError>
         return Err(ProgramError::new(alloc, USAGE, "PATCHFILE", message));
     }
     if is_toml_name(matches.get_str("FILE")) {
-        return Err(ProgramError::new(alloc, USAGE, "patch", "not on TOML: use set and delete"));
+        return Err(ProgramError::new(
+            alloc,
+            USAGE,
+            "patch",
+            "takes JSON, not TOML: use set and delete",
+        ));
     }
     let patch = PatchFile::read(rt, name)?;
     if let Some(undo) = matches.get_str("inverse") {
@@ -193,63 +202,6 @@ fn format_layout(matches: &ArgMatches<'_>, layout: Layout) -> Layout {
         },
         layout => layout,
     }
-}
-
-/// Prints the patch document that turns one document into another.
-fn diff(rt: &HostRuntime, matches: &ArgMatches<'_>) -> Result<u8, ProgramError> {
-    let alloc = rt.alloc();
-    let before = read_side(rt, matches, "OLD")?;
-    let old = before.value(alloc)?;
-    let after = read_side(rt, matches, "NEW")?;
-    let new = after.value(alloc)?;
-    if !is_lossy(matches) {
-        check_sides(alloc, &before, &after)?;
-    }
-    match difference_of(alloc, &old, &new, layout_of(matches)) {
-        Ok(difference) => {
-            if matches.get_flag("text") {
-                print_changes(rt, matches, old, difference.text.as_str())?;
-            } else {
-                print_line(rt, difference.text.as_str())?;
-            }
-            Ok(if difference.is_empty { 0 } else { NOT_APPLIED })
-        }
-        Err(error) => Err(after.error(alloc, "", error)),
-    }
-}
-
-/// Fails if a number of one of the documents loses digits, unless their bytes are the same.
-fn check_sides(alloc: Global, before: &Source<'_>, after: &Source<'_>) -> Result<(), ProgramError> {
-    if before.as_bytes() == after.as_bytes() {
-        return Ok(());
-    }
-    check_bytes(alloc, before.name, before.as_bytes())?;
-    check_bytes(alloc, after.name, after.as_bytes())
-}
-
-/// Prints a line for each change of the document by the patch with this text.
-fn print_changes(
-    rt: &HostRuntime,
-    matches: &ArgMatches<'_>,
-    document: Value,
-    patch: &str,
-) -> Result<(), ProgramError> {
-    let is_colored = are_colored(rt, matches)?;
-    let mut lines = changes_of(rt.alloc(), document, patch)?;
-    if is_colored {
-        lines = colored(rt.alloc(), lines.as_str())?;
-    }
-    print_text(rt, lines.as_str())
-}
-
-/// Reads one of the documents that are compared.
-fn read_side<'a>(
-    rt: &HostRuntime,
-    matches: &ArgMatches<'a>,
-    side: &str,
-) -> Result<Source<'a>, ProgramError> {
-    let file = Some(argument(matches, side));
-    Source::read_as(rt, FileFormat::of_file(matches, file), file)
 }
 
 /// Prints the tokens of a pointer.

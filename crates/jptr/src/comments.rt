@@ -2,7 +2,7 @@
 
 use crate::program_error::ProgramError;
 use jptr_tasks::document::text_result;
-use jptr_tasks::exit_status::NOT_APPLIED;
+use jptr_tasks::exit_status::NOT_MADE;
 use jptr_tasks::layout::Layout;
 use jptr_tasks::raw_patch::RawPatch;
 use jptr_tasks::task::Task;
@@ -38,7 +38,7 @@ pub fn bare(alloc: Global, name: &str, text: &str) -> Result<Option<String>, Pro
 
 /// Returns the error of a document with this name, whose comments a command would lose.
 pub fn other_layout(alloc: Global, name: &str) -> ProgramError {
-    ProgramError::new(alloc, NOT_APPLIED, name, OTHER_LAYOUT)
+    ProgramError::new(alloc, NOT_MADE, name, OTHER_LAYOUT)
 }
 
 /// Returns the text with comments after the task. A value that is found is printed without comments: as

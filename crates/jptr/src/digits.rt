@@ -1,6 +1,7 @@
 //! Numbers whose digits would be lost.
 
 use crate::program_error::ProgramError;
+use crate::shown::shown;
 use crate::style::OutputStyle;
 use clap::ArgMatches;
 use jptr_tasks::exit_status::BAD_INPUT;
@@ -65,16 +66,21 @@ impl LossError {
 
     /// Returns its text, after the name of the argument with the number.
     pub fn message(&self, alloc: Global) -> Result<String, AllocError> {
+        let message = shown(alloc, self.to_string(alloc)?.as_str())?;
         match self.argument() {
-            Some(name) => format!(in alloc; "{name}: {self}"),
-            None => self.to_string(alloc),
+            Some(name) => format!(in alloc; "{name}: {message}"),
+            None => Ok(message),
         }
     }
 
     /// Returns the error of the number in the input with this name, if it is in no argument.
     fn error(&self, alloc: Global, name: &str) -> ProgramError {
+        let message = match self.to_string(alloc) {
+            Ok(text) => shown(alloc, text.as_str()),
+            Err(error) => Err(error),
+        };
         let name = self.argument().unwrap_or(name);
-        ProgramError::of_message(alloc, BAD_INPUT, name, self.to_string(alloc))
+        ProgramError::of_message(alloc, BAD_INPUT, name, message)
     }
 }
 

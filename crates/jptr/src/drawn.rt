@@ -1,7 +1,8 @@
 //! What is at fault with a deletion or an operation of a patch: its pointer, drawn, or both values of a
 //! test. The document is read again for it, where a command has failed.
 
-use crate::program_error::shown;
+use crate::report::drawn;
+use crate::shown::shown;
 use jptr_tasks::layout::{Layout, show};
 use jptr_tasks::patch::operations_of;
 use jptr_tasks::task::Task;
@@ -68,7 +69,7 @@ fn drawn_at(
     pointer: Pointer<'_>,
     error: resolve::Error,
 ) -> Result<String, AllocError> {
-    error.into_report(pointer.to_buf(alloc)?).render(alloc)
+    drawn(alloc, &error.into_report(pointer.to_buf(alloc)?))
 }
 
 /// Returns what is at fault with the operation of the patch document at which it fails.
@@ -190,10 +191,10 @@ fn index(
 ) -> Result<Option<String>, AllocError> {
     match pointer.assign(alloc, document, Value::Null) {
         Ok(_replaced) => Ok(None),
-        Err(Fault::Refused(error)) => Ok(Some(assign::Error::into_report(
-            error,
-            pointer.to_buf(alloc)?,
-        ).render(alloc)?)),
+        Err(Fault::Refused(error)) => {
+            let report = assign::Error::into_report(error, pointer.to_buf(alloc)?);
+            Ok(Some(drawn(alloc, &report)?))
+        }
         Err(Fault::Memory(error)) => Err(error),
     }
 }
@@ -205,13 +206,19 @@ fn difference(
     found: &Value,
     wanted: &Value,
 ) -> Result<String, AllocError> {
-    let found = shortened(alloc, show(alloc, found, Layout::Compact)?)?;
-    let wanted = shortened(alloc, show(alloc, wanted, Layout::Compact)?)?;
+    let found = shown_value(alloc, found)?;
+    let wanted = shown_value(alloc, wanted)?;
     if pointer.is_root() {
         return format!(in alloc; "the document is {found}, and not {wanted}");
     }
     let pointer = shown(alloc, pointer.as_str())?;
     format!(in alloc; "{pointer} is {found}, and not {wanted}")
+}
+
+/// Returns the text of a value as it is shown: the whole text, or its first characters and an ellipsis.
+fn shown_value(alloc: Global, value: &Value) -> Result<String, AllocError> {
+    let text = show(alloc, value, Layout::Compact)?;
+    shortened(alloc, shown(alloc, text.as_str())?)
 }
 
 /// Returns the text, or its first characters and an ellipsis.

@@ -4,7 +4,7 @@ use crate::drawn::missing;
 use crate::program_error::ProgramError;
 use crate::source::Source;
 use crate::toml_file;
-use jptr_tasks::exit_status::NOT_APPLIED;
+use jptr_tasks::exit_status::NOT_MADE;
 use jptr_tasks::node::scalar_above;
 use jptr_tasks::task::Task;
 use jptr_tasks::task_error::TaskError;
@@ -36,7 +36,7 @@ pub fn check_expansion(
         Ok(None) => Ok(()),
         Ok(Some(_)) => {
             let drawing = missing(alloc, text.as_bytes(), *pointer);
-            Err(ProgramError::new(alloc, NOT_APPLIED, name, SCALAR).with_drawing(drawing))
+            Err(ProgramError::new(alloc, NOT_MADE, name, SCALAR).with_drawing(drawing))
         }
         Err(TaskError::NotJson) => Err(ProgramError::of_bytes(alloc, name, text.as_bytes())),
         Err(error) => Err(ProgramError::of_error_with_hint(
@@ -45,7 +45,7 @@ pub fn check_expansion(
             pointer.as_str(),
             error,
             NO_CONTAINER,
-        )),
+        ).with_status(NOT_MADE)),
     }
 }
 
@@ -62,10 +62,10 @@ pub fn check_toml_expansion(
     match resolve_in_toml(alloc, source.text(alloc)?, above) {
         Ok(Value::Array(_)) => Ok(()),
         Ok(Value::Table(_)) => Ok(()),
-        Ok(_) => Err(ProgramError::new(alloc, NOT_APPLIED, source.name, SCALAR)),
+        Ok(_) => Err(ProgramError::new(alloc, NOT_MADE, source.name, SCALAR)),
         Err(InTomlError::Resolve(_error)) => Err(ProgramError::new(
             alloc,
-            NOT_APPLIED,
+            NOT_MADE,
             source.name,
             NO_TABLE,
         )),

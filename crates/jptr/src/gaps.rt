@@ -1,7 +1,8 @@
 //! Arrays whose elements are missing in lines that build a document.
 
 use crate::program_error::ProgramError;
-use jptr_tasks::exit_status::NOT_APPLIED;
+use crate::shown::shown;
+use jptr_tasks::exit_status::NOT_MADE;
 use jsonptr::index::Index;
 use std::alloc::{AllocError, Global};
 
@@ -161,6 +162,7 @@ fn missing_message(
     index: usize,
 ) -> Result<String, AllocError> {
     let link = if above.is_empty() { "" } else { " of " };
+    let above = shown(alloc, above)?;
     format!(in alloc;
         "line {number}: index {index}{link}{above} is missing; with --fill, missing elements are null"
     )
@@ -189,7 +191,7 @@ fn check_size(
         return Ok(());
     }
     let message = format!(in alloc; "line {number}: more than {MOST} elements are missing");
-    Err(ProgramError::of_message(alloc, NOT_APPLIED, name, message))
+    Err(ProgramError::of_message(alloc, NOT_MADE, name, message))
 }
 
 impl Filled {
@@ -332,13 +334,13 @@ fn has_line(alloc: Global, lines: &str, pointer: &str, then: &str) -> Result<boo
 
 /// Returns the error of a line before which elements are missing.
 fn gap_error(alloc: Global, name: &str, number: usize, gap: MissingElements<'_>) -> ProgramError {
-    ProgramError::of_message(alloc, NOT_APPLIED, name, message(alloc, number, gap))
+    ProgramError::of_message(alloc, NOT_MADE, name, message(alloc, number, gap))
 }
 
 /// Returns what is said of a line before which elements are missing.
 fn message(alloc: Global, number: usize, gap: MissingElements<'_>) -> Result<String, AllocError> {
-    let (above, to) = (gap.above, gap.to);
-    let at = if above.is_empty() { "" } else { " at " };
+    let (above, to) = (shown(alloc, gap.above)?, gap.to);
+    let at = if gap.above.is_empty() { "" } else { " at " };
     format!(in alloc;
         "line {number}: no element is before {to} in an array{at}{above}: --fill adds null, and lines of paths --all tell an object"
     )

@@ -2,7 +2,8 @@
 ghost use Rattle.std.specs.Prelude.{reverse};
 
 use crate::input::file_error;
-use crate::program_error::{ProgramError, shown};
+use crate::program_error::ProgramError;
+use crate::shown::shown;
 use jptr_tasks::replacement::{Event, FileSystem, Replaced, replace};
 use std::alloc::{AllocError, Global};
 use std::fs::{File, Metadata, OpenOptions, Permissions, TryLockError};
@@ -274,21 +275,12 @@ fn look(rt: &HostRuntime, target: &EditedFile) -> io::Result<()> {
     }
 }
 
-/// Returns whether the metadata are those of one file that was not changed in between.
+/// Returns whether the metadata are those of one file that was not changed in between. A time of
+/// modification can be set back, and the time of change cannot.
 fn is_same(now: &Metadata, seen: &Metadata) -> bool {
-    (
-        now.dev(),
-        now.ino(),
-        now.size(),
-        now.mtime(),
-        now.mtime_nsec(),
-    ) == (
-        seen.dev(),
-        seen.ino(),
-        seen.size(),
-        seen.mtime(),
-        seen.mtime_nsec(),
-    )
+    (now.dev(), now.ino(), now.size()) == (seen.dev(), seen.ino(), seen.size())
+        && (now.mtime(), now.mtime_nsec()) == (seen.mtime(), seen.mtime_nsec())
+        && (now.ctime(), now.ctime_nsec()) == (seen.ctime(), seen.ctime_nsec())
 }
 
 /// Syncs the folder of the file, so that the new name is on the device.

@@ -7,7 +7,7 @@ use crate::position::Position;
 use crate::program_error::ProgramError;
 use crate::source::{FileFormat, Source};
 use clap::ArgMatches;
-use jptr_tasks::exit_status::{NOT_APPLIED, USAGE};
+use jptr_tasks::exit_status::{NO, USAGE};
 use jptr_tasks::task_error::TaskError;
 use jsonptr::Pointer;
 use jsonptr_edit_in_text::{LocateError, PointerAt, locate_in_text, pointer_at};
@@ -69,9 +69,8 @@ fn print_pointer(
     check_json(alloc, "locate", file)?;
     let source = Source::read_as(rt, FileFormat::of_file(matches, file), file)?;
     let text = source.text(alloc)?;
-    let Some(offset) = position.offset_in(text) else {
-        return Err(nothing_at(alloc, &source, argument));
-    };
+    // No value is after the end, but the text is read.
+    let offset = position.offset_in(text).unwrap_or(text.len());
     match pointer_at(alloc, text, offset) {
         Ok(Some(PointerAt { pointer, .. })) => print_line(rt, pointer.as_ptr().as_str()),
         Ok(None) => Err(nothing_at(alloc, &source, argument)),
@@ -92,7 +91,7 @@ fn locate_error(
 /// Returns the error of a position that has no value.
 fn nothing_at(alloc: Global, source: &Source<'_>, argument: &str) -> ProgramError {
     let message = format!(in alloc; "no value at {argument}");
-    ProgramError::of_message(alloc, NOT_APPLIED, source.name, message)
+    ProgramError::of_message(alloc, NO, source.name, message)
 }
 
 /// Returns the line that says where a value is. Standard input has no name there.

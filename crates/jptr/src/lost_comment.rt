@@ -2,7 +2,7 @@
 
 use crate::position::Position;
 use crate::program_error::ProgramError;
-use jptr_tasks::exit_status::NOT_APPLIED;
+use jptr_tasks::exit_status::NOT_MADE;
 use jptr_tasks::task::Task;
 use jsonptr::Pointer;
 use jsonptr_edit_in_text::{Buffers, LocateError, Located, locate_in_text};
@@ -31,7 +31,7 @@ pub fn not_in_place(
     match lost_by(alloc, task, commented) {
         Ok(lost) => {
             let message = reason(alloc, lost, reformats);
-            ProgramError::of_message(alloc, NOT_APPLIED, name, message)
+            ProgramError::of_message(alloc, NOT_MADE, name, message)
         }
         Err(_) => ProgramError::Memory,
     }

@@ -7,7 +7,7 @@ use crate::source::{FileFormat, Source};
 use crate::style::layout_of;
 use crate::value_argument::ValueArgument;
 use clap::ArgMatches;
-use jptr_tasks::exit_status::NOT_APPLIED;
+use jptr_tasks::exit_status::NO;
 use jptr_tasks::layout::{Layout, show};
 use jptr_tasks::node::{equals_in_text, keys_in_text, length_in_text, type_in_text};
 use jptr_tasks::task_error::TaskError;
@@ -89,8 +89,8 @@ pub fn test(rt: &HostRuntime, matches: &ArgMatches<'_>) -> Result<u8, ProgramErr
     let source = Source::read_as(rt, FileFormat::of_file(matches, file), file)?;
     match passes(alloc, source.text(alloc)?, pointer, value) {
         Ok(true) => Ok(0),
-        Ok(false) => Ok(NOT_APPLIED),
-        Err(TaskError::Resolve(_error)) => Ok(NOT_APPLIED),
+        Ok(false) => Ok(NO),
+        Err(TaskError::Resolve(_error)) => Ok(NO),
         Err(error) => Err(source.error(alloc, pointer.as_str(), error)),
     }
 }
@@ -159,7 +159,7 @@ fn lacking(alloc: Global, source: &Source<'_>, pointer: Pointer<'_>, what: &str)
     match type_in_text(alloc, text, pointer) {
         Ok(found) => {
             let message = format!(in alloc; "{} has no {what}", described(found));
-            ProgramError::of_message(alloc, NOT_APPLIED, source.name, message)
+            ProgramError::of_message(alloc, NO, source.name, message)
         }
         Err(error) => source.error(alloc, pointer.as_str(), error),
     }

@@ -2,9 +2,11 @@
 
 use crate::program_error::ProgramError;
 use clap::ArgMatches;
-use jptr_tasks::exit_status::USAGE;
+use jptr_tasks::exit_status::{FILE, USAGE};
 use jsonptr::Pointer;
 use std::alloc::{AllocError, Global};
+use std::fs;
+use std::io::ErrorKind;
 
 /// Returns the value of a required argument.
 pub fn argument<'a>(matches: &ArgMatches<'a>, name: &str) -> &'a str {
@@ -47,6 +49,35 @@ fn has_file(matches: &ArgMatches<'_>, words: &[&str]) -> bool {
     matches.get_str("JSON").is_none() || words.len() % 2 == 1
 }
 
+/// Fails if the last word after a pointer is taken as the file, no file has this name, and it looks like a
+/// pointer too.
+pub fn check_last_word(rt: &HostRuntime, matches: &ArgMatches<'_>) -> Result<(), ProgramError> {
+    let Some(word) = file_of(matches) else {
+        return Ok(());
+    };
+    if !word.starts_with('/') || !argument(matches, "POINTER").starts_with('/') {
+        return Ok(());
+    }
+    match fs::metadata(rt, word) {
+        Err(error) if error.kind() == ErrorKind::NotFound && !is_in_folder(rt, word) => {
+            let alloc = rt.alloc();
+            let message = format!(in alloc;
+                "{error}; after several pointers, write - for standard input"
+            );
+            Err(ProgramError::of_message(alloc, FILE, word, message))
+        }
+        _ => Ok(()),
+    }
+}
+
+/// Returns whether the path is that of a file in a folder that is there, and not in the root of all files.
+fn is_in_folder(rt: &HostRuntime, path: &str) -> bool {
+    match path.rsplit_once('/') {
+        Some((folder, _)) => !folder.is_empty() && fs::metadata(rt, folder).is_ok(),
+        None => false,
+    }
+}
+
 /// Parses an argument as a pointer.
 pub fn pointer_of<'a>(alloc: Global, text: &'a str) -> Result<Pointer<'a>, ProgramError> {
     match Pointer::parse(text) {
@@ -58,7 +89,7 @@ pub fn pointer_of<'a>(alloc: Global, text: &'a str) -> Result<Pointer<'a>, Progr
 /// Fails if the file of a command that takes JSON alone is TOML by its name.
 pub fn check_json(alloc: Global, command: &str, file: Option<&str>) -> Result<(), ProgramError> {
     if is_toml_name(file) {
-        return Err(ProgramError::new(alloc, USAGE, command, "not on TOML"));
+        return Err(ProgramError::new(alloc, USAGE, command, "takes JSON, not TOML"));
     }
     Ok(())
 }

@@ -4,25 +4,26 @@ use crate::operands::{argument, check_json, pointer_of};
 use crate::program_error::ProgramError;
 use crate::source::Source;
 use crate::style::style_of;
-use crate::task::{run_task, tried};
+use crate::task::{result_of, run_task, tried};
 use crate::value_argument::ValueArgument;
 use clap::ArgMatches;
-use jptr_tasks::exit_status::{NOT_APPLIED, USAGE};
-use jptr_tasks::node::type_in_text;
+use jptr_tasks::exit_status::{NOT_MADE, USAGE};
+use jptr_tasks::layout::Layout;
+use jptr_tasks::node::{length_in_text, type_in_text};
 use jptr_tasks::patch::raw_patch;
 use jptr_tasks::raw_patch::RawPatch;
 use jptr_tasks::task::Task;
 use jptr_tasks::task_error::TaskError;
 use jsonptr::{Pointer, PointerBuf, Token};
 use jsonptr_in_text::exists_in_text;
-use jsonptr_patch::PatchError;
+use jsonptr_patch::{PatchError, is_proper_prefix};
 use jsonptr_value::{NodeType, if_json};
 use serde_json::Value;
 use std::alloc::{AllocError, Global};
 use std::borrow::CowStr;
 
 /// Why a value is not moved.
-const INTO_SELF: &str = "FROM is a proper prefix of POINTER";
+const INTO_SELF: &str = "FROM is a proper prefix of it";
 
 /// An operation, and the pointers that an error can be about.
 #[derive(Drop)]
@@ -62,7 +63,15 @@ pub fn transfer(
     check_json(alloc, command, matches.get_str("FILE"))?;
     let from = pointer_of(alloc, argument(matches, "FROM"))?;
     let path = pointer_of(alloc, argument(matches, "POINTER"))?;
-    run(rt, matches, &transfer_of(alloc, command, from, path)?)
+    if command == "move" && is_proper_prefix(from, path) {
+        return Err(ProgramError::new(alloc, USAGE, "POINTER", INTO_SELF));
+    }
+    let operation = transfer_of(alloc, command, from, path)?;
+    if command == "copy" || matches.get_flag("lines") {
+        return run(rt, matches, &operation);
+    }
+    let source = Source::open(rt, matches)?;
+    put_moved(rt, matches, &source, operation)
 }
 
 /// Returns the operation that moves or copies a value.
@@ -98,7 +107,115 @@ pub fn rename(rt: &HostRuntime, matches: &ArgMatches<'_>) -> Result<u8, ProgramE
     let source = Source::open(rt, matches)?;
     check_member(alloc, &source, from, parent, &path)?;
     let operation = transfer_of(alloc, "move", from, path.as_ptr())?;
-    put(rt, matches, &source, &operation)
+    put_moved(rt, matches, &source, operation)
+}
+
+/// Prints the document after a move, or replaces the text of the file by it.
+///
+/// A move onto itself changes nothing. The only child of an array or an object is copied and then removed,
+/// where that is the same: while it is there, it shows the layout.
+fn put_moved(
+    rt: &HostRuntime,
+    matches: &ArgMatches<'_>,
+    source: &Source<'_>,
+    operation: SingleOperation<'_>,
+) -> Result<u8, ProgramError> {
+    let mut operation = operation;
+    if operation.from == Some(operation.path) {
+        return put_unmoved(rt, matches, source, operation.path);
+    }
+    if let Some(patch) = only_child_patch(rt.alloc(), source, &operation)? {
+        // A move that is made loses no comment.
+        if !source.has_comments() || is_made(rt.alloc(), matches, source, &operation)? {
+            operation.patch = patch;
+        }
+    }
+    put(rt, matches, source, &operation)
+}
+
+/// Prints the document, or leaves its file as it is, if the pointer resolves to a value.
+fn put_unmoved(
+    rt: &HostRuntime,
+    matches: &ArgMatches<'_>,
+    source: &Source<'_>,
+    pointer: Pointer<'_>,
+) -> Result<u8, ProgramError> {
+    let alloc = rt.alloc();
+    if let Err(error) = type_in_text(alloc, source.text(alloc)?, pointer) {
+        return Err(source.error(alloc, pointer.as_str(), error));
+    }
+    let style = style_of(alloc, matches)?;
+    if style.layout == Layout::Kept {
+        source.put(rt, source.whole_text(alloc)?.as_str())?;
+        return Ok(0);
+    }
+    source.check_bare(alloc)?;
+    let whole = Task::Get(Pointer::root(), None);
+    let text = result_of(alloc, source.name, source.as_bytes(), &whole, style)?;
+    source.put(rt, text.as_str())?;
+    Ok(0)
+}
+
+/// Returns whether the operation can be made in the document.
+fn is_made(
+    alloc: Global,
+    matches: &ArgMatches<'_>,
+    source: &Source<'_>,
+    operation: &SingleOperation<'_>,
+) -> Result<bool, ProgramError> {
+    let task = Task::Patch(patch_of(alloc, operation.patch.as_str())?);
+    match tried(alloc, source, &task, style_of(alloc, matches)?) {
+        Ok(made) => Ok(made.is_ok()),
+        Err(ProgramError::Memory) => Err(ProgramError::Memory),
+        // It is made again, and its error is reported then.
+        Err(_error) => Ok(false),
+    }
+}
+
+/// Returns the text of the patch that copies the only child of an array or an object to another place in
+/// it, and then removes it. Returns `None` if the operation does not move such a child.
+fn only_child_patch(
+    alloc: Global,
+    source: &Source<'_>,
+    operation: &SingleOperation<'_>,
+) -> Result<Option<String>, ProgramError> {
+    let Some(from) = operation.from else {
+        return Ok(None);
+    };
+    if !moves_only_child(alloc, source, from, operation.path)? {
+        return Ok(None);
+    }
+    let (old, new) = (quoted(alloc, from)?, quoted(alloc, operation.path)?);
+    let copy = format!(in alloc; "{{\"op\":\"copy\",\"from\":{old},\"path\":{new}}}")?;
+    let patch = format!(in alloc; "[{copy},{{\"op\":\"remove\",\"path\":{old}}}]")?;
+    Ok(Some(patch))
+}
+
+/// Returns whether the value is the only child of an array or an object, and is moved to another key of
+/// that or to its end.
+fn moves_only_child(
+    alloc: Global,
+    source: &Source<'_>,
+    from: Pointer<'_>,
+    path: Pointer<'_>,
+) -> Result<bool, ProgramError> {
+    let (Some(parent), Some(last)) = (from.parent(), path.last()) else {
+        return Ok(false);
+    };
+    if path.parent() != Some(parent) {
+        return Ok(false);
+    }
+    let text = source.text(alloc)?;
+    let is_only = matches!(length_in_text(alloc, text, parent), Ok(Some(1)));
+    let is_there = matches!(exists_in_text(alloc, text, from), Ok(true));
+    if !is_only || !is_there {
+        return Ok(false);
+    }
+    match type_in_text(alloc, text, parent) {
+        Ok(NodeType::Object) => Ok(true),
+        Ok(_) => Ok(last.encoded() == "-"),
+        Err(_) => Ok(false),
+    }
 }
 
 /// Returns the pointer of the member with this key.
@@ -121,7 +238,7 @@ fn check_member(
         Ok(NodeType::Object) => {}
         Ok(_) => return Err(ProgramError::new(
             alloc,
-            NOT_APPLIED,
+            NOT_MADE,
             source.name,
             "not a member of an object",
         )),
@@ -134,7 +251,7 @@ fn check_member(
         Ok(false) => Ok(()),
         Ok(true) => Err(ProgramError::new(
             alloc,
-            NOT_APPLIED,
+            NOT_MADE,
             source.name,
             "there is a member with this key",
         )),
@@ -181,9 +298,6 @@ fn put(
         Ok(new) => {
             source.put(rt, new.as_str())?;
             Ok(0)
-        }
-        Err(TaskError::PatchFailed(PatchError::MoveIntoSelf { .. })) => {
-            Err(ProgramError::new(alloc, NOT_APPLIED, source.name, INTO_SELF))
         }
         Err(error) => {
             let pointer = pointer_at_fault(alloc, source, operation)?;

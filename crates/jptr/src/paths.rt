@@ -8,7 +8,7 @@ use crate::source::{FileFormat, Source};
 use crate::style::layout_of;
 use crate::toml_file;
 use clap::ArgMatches;
-use jptr_tasks::exit_status::NOT_APPLIED;
+use jptr_tasks::exit_status::NOT_MADE;
 use jptr_tasks::paths::{built_text, listed_text};
 use jptr_tasks::task_error::TaskError;
 use jsonptr::assign;
@@ -20,6 +20,9 @@ use std::alloc::{AllocError, Global};
 /// Prints a line for each leaf of a document, or for each node.
 pub fn paths(rt: &HostRuntime, matches: &ArgMatches<'_>) -> Result<u8, ProgramError> {
     let alloc = rt.alloc();
+    if FileFormat::of(matches) == FileFormat::Toml {
+        toml_file::check_flags(alloc, matches, false)?;
+    }
     let source = Source::open(rt, matches)?;
     let which = if matches.get_flag("all") {
         Listed::AllNodes
@@ -77,7 +80,7 @@ pub fn from_paths(rt: &HostRuntime, matches: &ArgMatches<'_>) -> Result<u8, Prog
 /// flag that adds them.
 fn build_error(alloc: Global, lines: &Source<'_>, error: TaskError) -> ProgramError {
     match missing_message(alloc, lines.as_bytes(), &error) {
-        Ok(Some(message)) => ProgramError::new(alloc, NOT_APPLIED, lines.name, message.as_str()),
+        Ok(Some(message)) => ProgramError::new(alloc, NOT_MADE, lines.name, message.as_str()),
         Ok(None) => lines.error(alloc, "", error),
         Err(_) => ProgramError::Memory,
     }

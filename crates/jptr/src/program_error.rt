@@ -1,7 +1,9 @@
 //! The errors of the program, as they are printed.
 
+use crate::report::drawn;
+use crate::shown::{printable, shown};
 use crate::syntax::{explain, unclosed_comment};
-use jptr_tasks::exit_status::{BAD_INPUT, MEMORY, NOT_APPLIED};
+use jptr_tasks::exit_status::{BAD_INPUT, MEMORY, USAGE};
 use jptr_tasks::task_error::TaskError;
 use jsonptr::diagnostic::Diagnostic;
 use jsonptr::{EncodingError, ParseError, PointerBuf};
@@ -98,12 +100,25 @@ impl ProgramError {
 
     /// Returns the error of an argument that is not a pointer.
     pub fn of_pointer(alloc: Global, text: &str, error: ParseError) -> ProgramError {
-        ProgramError::of_text(NOT_APPLIED, pointer_text(alloc, text, error))
+        ProgramError::of_text(USAGE, pointer_text(alloc, text, error))
     }
 
     /// Returns the error of an argument that is not a token.
     pub fn of_token(alloc: Global, text: &str, error: EncodingError) -> ProgramError {
-        ProgramError::of_text(NOT_APPLIED, token_text(alloc, text, error))
+        ProgramError::of_text(USAGE, token_text(alloc, text, error))
+    }
+
+    /// Returns the error of a command line, with this text of one line or several.
+    pub fn of_usage(alloc: Global, text: &str) -> ProgramError {
+        ProgramError::of_text(USAGE, printable(alloc, text))
+    }
+
+    /// Returns the error with another exit status.
+    pub fn with_status(self, status: u8) -> ProgramError {
+        match self {
+            ProgramError::Other(_, text) => ProgramError::Other(status, text),
+            error => error,
+        }
     }
 
     /// Returns the error of a value that is not a JSON text. A word may be meant as a string.
@@ -154,21 +169,6 @@ fn hinted(alloc: Global, text: &str, message: String) -> Result<String, AllocErr
 fn line(alloc: Global, name: &str, message: &str) -> Result<String, AllocError> {
     let name = shown(alloc, name)?;
     format!(in alloc; "jptr: {name}: {message}\n")
-}
-
-/// Returns the text as it is shown: each control character in it is escaped.
-pub fn shown(alloc: Global, text: &str) -> Result<String, AllocError> {
-    let mut shown = String::new(alloc);
-    for c in text.chars() {
-        if c.is_control() {
-            for escaped in c.escape_default() {
-                shown.push(escaped)?;
-            }
-        } else {
-            shown.push(c)?;
-        }
-    }
-    Ok(shown)
 }
 
 impl From<AllocError> for ProgramError {
@@ -226,8 +226,8 @@ fn drawing(alloc: Global, pointer: &str, error: TaskError) -> Result<Option<Stri
         return Ok(None);
     };
     match error {
-        TaskError::Resolve(error) => Ok(Some(error.into_report(subject).render(alloc)?)),
-        TaskError::Assign(error) => Ok(Some(error.into_report(subject).render(alloc)?)),
+        TaskError::Resolve(error) => Ok(Some(drawn(alloc, &error.into_report(subject))?)),
+        TaskError::Assign(error) => Ok(Some(drawn(alloc, &error.into_report(subject))?)),
         _ => Ok(None),
     }
 }
@@ -244,31 +244,55 @@ fn patch_text(
         return Err(AllocError);
     };
     let name = shown(alloc, name)?;
-    let text = format!(in alloc; "jptr: {name}: {error}\n")?;
+    let hint = patch_hint(document);
+    let text = format!(in alloc; "jptr: {name}: {error}{hint}\n")?;
     let Some(pointer) = error.pointer_text(document) else {
         return Ok(text);
     };
     let report = error.into_report(String::from_str(alloc, pointer)?);
-    append_lines(text, report.render(alloc)?.as_str())
+    append_lines(text, drawn(alloc, &report)?.as_str())
+}
+
+/// Returns what is printed after the text of an error of a document that is not a patch.
+fn patch_hint(document: &Value) -> &'static str {
+    match document {
+        Value::Object(_) => "; a merge patch (RFC 7396) is not taken",
+        _ => "",
+    }
 }
 
 /// Returns the text of the error of a pointer.
 fn pointer_text(alloc: Global, pointer: &str, error: ParseError) -> Result<String, AllocError> {
-    let text = format!(in alloc; "jptr: POINTER: {error}\n")?;
+    let hint = pointer_hint(pointer);
+    let text = format!(in alloc; "jptr: POINTER: {error}{hint}\n")?;
     let report = error.into_report(String::from_str(alloc, pointer)?);
-    append_lines(text, report.render(alloc)?.as_str())
+    append_lines(text, drawn(alloc, &report)?.as_str())
+}
+
+/// Returns what is printed after the text of an error of a pointer: what a pointer looks like.
+fn pointer_hint(pointer: &str) -> &'static str {
+    match pointer.as_bytes().first() {
+        None | Some(b'/') => "",
+        Some(b'#') => "; leave out the #, and write a character for each of its %-codes",
+        Some(b'.') => "; write /a/0 for .a[0], and '' for the whole document",
+        Some(_) =>
+            "; a pointer looks like /a/0 and comes before FILE, and '' is the whole document",
+    }
 }
 
 /// Returns the text of the error of a token.
 fn token_text(alloc: Global, token: &str, error: EncodingError) -> Result<String, AllocError> {
     let text = format!(in alloc; "jptr: TOKEN: {error}\n")?;
     let report = error.into_report(String::from_str(alloc, token)?);
-    append_lines(text, report.render(alloc)?.as_str())
+    append_lines(text, drawn(alloc, &report)?.as_str())
 }
 
 /// Returns the text of the error of bytes that are not JSON, with its line and column.
 fn json_text(alloc: Global, name: &str, bytes: &[u8]) -> Result<String, AllocError> {
     let name = shown(alloc, name)?;
+    if bytes.trim_ascii().is_empty() {
+        return format!(in alloc; "jptr: {name}: the input is empty\n");
+    }
     if let Ok(text) = from_utf8(bytes) {
         if let Some(why) = explain(alloc, text)? {
             return format!(in alloc; "jptr: {name}: {why}\n");

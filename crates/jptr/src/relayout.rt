@@ -6,7 +6,7 @@ use crate::operands::check_json;
 use crate::program_error::ProgramError;
 use crate::source::Source;
 use clap::ArgMatches;
-use jptr_tasks::exit_status::{NOT_APPLIED, USAGE};
+use jptr_tasks::exit_status::{NOT_MADE, USAGE};
 use jsonptr_relayout::{Relaid, RelayoutTextError, relayout_text};
 use std::alloc::Global;
 
@@ -48,7 +48,7 @@ fn relaid(
         Ok(Relaid::Kept(text)) => text,
         Ok(Relaid::Rewritten(text)) => {
             if !matches.get_flag("reformat") {
-                return Err(ProgramError::new(alloc, NOT_APPLIED, old.name, NOT_LAID_OUT));
+                return Err(ProgramError::new(alloc, NOT_MADE, old.name, NOT_LAID_OUT));
             }
             text
         }

@@ -239,7 +239,8 @@ fn check_several(alloc: Global, matches: &ArgMatches<'_>) -> Result<(), ProgramE
         return Err(ProgramError::new(alloc, USAGE, "--lines", "takes one pointer"));
     }
     if FileFormat::of(matches) == FileFormat::Toml {
-        return Err(ProgramError::new(alloc, USAGE, "POINTER", "on TOML, one alone"));
+        let message = "a TOML document takes one pointer at a time";
+        return Err(ProgramError::new(alloc, USAGE, "POINTER", message));
     }
     Ok(())
 }

@@ -1,7 +1,7 @@
 //! Why a text is not JSON: what is found, and what may be there instead.
 
 use crate::position::Position;
-use crate::program_error::shown;
+use crate::shown::shown;
 use jsonptr_value::MAX_DEPTH;
 use std::alloc::{AllocError, Global};
 
@@ -10,6 +10,15 @@ const MOST_DRAWN: usize = 60;
 
 /// What to do about a comment.
 const COMMENTS: &str = "; with --comments, comments are read";
+
+/// What to do about a trailing comma.
+const TRAILING: &str = "; with --comments, trailing commas are read";
+
+/// What to do about a second document.
+const LINES: &str = "; with --lines, each line is a document";
+
+/// What comes after a document.
+const END: &str = "the end";
 
 /// What may come next in a JSON text.
 #[derive(Clone, Copy, PartialEq, Eq)]
@@ -41,6 +50,8 @@ enum SyntaxError {
     Control,
     /// No escape of JSON begins so.
     Escape,
+    /// An escape is half of a character.
+    Surrogate,
     /// An array or an object is too deep.
     Depth,
     /// A block comment is not closed.
@@ -182,6 +193,7 @@ impl<'t> Scanner<'t> {
         let rest = self.bytes.get(self.at.saturating_add(1)..).unwrap_or(&[]);
         let mut is_escaped = false;
         let mut digits: usize = 0;
+        let mut is_second = false;
         self.next = next;
         for byte in rest {
             self.at = self.at.saturating_add(1);
@@ -190,6 +202,12 @@ impl<'t> Scanner<'t> {
                     return Some(SyntaxError::Expected("a hexadecimal digit"));
                 }
                 digits -= 1;
+                if digits == 0 {
+                    match self.begins_pair(is_second) {
+                        Some(begins) => is_second = begins,
+                        None => return Some(self.lone_surrogate()),
+                    }
+                }
             } else if is_escaped {
                 is_escaped = false;
                 match digits_of_escape(*byte) {
@@ -206,6 +224,29 @@ impl<'t> Scanner<'t> {
         }
         self.at = self.bytes.len();
         Some(SyntaxError::Expected("the end of the string"))
+    }
+
+    /// Returns whether the escape that ends here is the first half of a surrogate pair, or `None` if the
+    /// other half is missing. After a first half it is the second one.
+    fn begins_pair(&self, is_second: bool) -> Option<bool> {
+        match half_at(self.bytes, self.at.saturating_sub(5)) {
+            Some(Half::First) => {
+                let next = half_at(self.bytes, self.at.saturating_add(1));
+                if next == Some(Half::Second) {
+                    Some(true)
+                } else {
+                    None
+                }
+            }
+            Some(Half::Second) if !is_second => None,
+            _ => Some(false),
+        }
+    }
+
+    /// Returns that the escape that ends here is half of a pair.
+    fn lone_surrogate(&mut self) -> SyntaxError {
+        self.at = self.at.saturating_sub(5);
+        SyntaxError::Surrogate
     }
 
     /// Takes a number or a word.
@@ -280,7 +321,7 @@ impl<'t> Scanner<'t> {
             Next::Colon => "`:`",
             Next::AfterElement => "`,` or `]`",
             Next::AfterMember => "`,` or `}`",
-            Next::End => "the end",
+            Next::End => END,
         })
     }
 }
@@ -290,6 +331,30 @@ fn digits_of_escape(byte: u8) -> Option<usize> {
     match byte {
         b'u' => Some(4),
         b'"' | b'\\' | b'/' | b'b' | b'f' | b'n' | b'r' | b't' => Some(0),
+        _ => None,
+    }
+}
+
+/// A half of a surrogate pair.
+#[derive(Clone, Copy, PartialEq, Eq)]
+enum Half {
+    /// The first one, from `\\ud800` to `\\udbff`.
+    First,
+    /// The second one, from `\\udc00` to `\\udfff`.
+    Second,
+}
+
+/// Returns which half of a surrogate pair the escape at the offset is, if it is one.
+fn half_at(bytes: &[u8], offset: usize) -> Option<Half> {
+    match bytes.get(offset..)? {
+        [
+            b'\\',
+            b'u',
+            b'd' | b'D',
+            b'8' | b'9' | b'a' | b'b' | b'A' | b'B',
+            ..
+        ] => Some(Half::First),
+        [b'\\', b'u', b'd' | b'D', b'c'..=b'f' | b'C'..=b'F', ..] => Some(Half::Second),
         _ => None,
     }
 }
@@ -305,9 +370,16 @@ fn drawn(
     let after = text.get(offset..).unwrap_or("");
     let Position { line, column } = Position::after(before);
     let reason = reason_of(alloc, after, fault)?;
-    let hint = hint_at(after, fault);
-    let row = row_with_caret(alloc, last_row(before), first_row(after))?;
+    let hint = hint_at(before, after, fault);
+    let row = row_at(alloc, text, offset)?;
     format!(in alloc; "{reason} at line {line} column {column}{hint}\n{row}")
+}
+
+/// Returns the line of the offset, and a caret below its character there.
+pub fn row_at(alloc: Global, text: &str, offset: usize) -> Result<String, AllocError> {
+    let before = text.get(..offset).unwrap_or(text);
+    let after = text.get(offset..).unwrap_or("");
+    row_with_caret(alloc, last_row(before), first_row(after))
 }
 
 /// Returns the two parts of a line, and a caret below the start of the second one.
@@ -335,16 +407,27 @@ fn reason_of(alloc: Global, after: &str, fault: SyntaxError) -> Result<String, A
             let found = found_in(alloc, after)?;
             format!(in alloc; "text is not JSON: no escape of a string: {found}")
         }
+        SyntaxError::Surrogate => format!(in alloc;
+            "text is not JSON: an escape is half of a surrogate pair"
+        ),
         SyntaxError::Depth => format!(in alloc; "JSON, but nested deeper than {MAX_DEPTH}"),
         SyntaxError::Comment => format!(in alloc; "comment is not closed"),
     }
 }
 
-/// Returns what to do about the fault, before this text.
-fn hint_at(after: &str, fault: SyntaxError) -> &'static str {
-    match fault {
-        SyntaxError::Expected(_) if after.starts_with("//") || after.starts_with("/*") => COMMENTS,
-        _ => "",
+/// Returns what to do about the fault, which is between these texts.
+fn hint_at(before: &str, after: &str, fault: SyntaxError) -> &'static str {
+    let SyntaxError::Expected(what) = fault else {
+        return "";
+    };
+    if after.starts_with("//") || after.starts_with("/*") {
+        COMMENTS
+    } else if after.starts_with(['}', ']']) && before.trim_end().ends_with(',') {
+        TRAILING
+    } else if what == END && after.starts_with(['{', '[']) && before.ends_with('\n') {
+        LINES
+    } else {
+        ""
     }
 }
 

@@ -10,11 +10,12 @@ use crate::lost_comment::not_in_place;
 use crate::operands::file_of;
 use crate::output::{Output, print_text};
 use crate::program_error::ProgramError;
+use crate::shown::shown;
 use crate::source::{FileFormat, Source};
 use crate::style::{OutputStyle, indented, style_of};
 use clap::ArgMatches;
 use jptr_tasks::document::{document_result, run_document};
-use jptr_tasks::exit_status::{NOT_APPLIED, USAGE};
+use jptr_tasks::exit_status::{BAD_LINE, USAGE};
 use jptr_tasks::layout::{Layout, show};
 use jptr_tasks::line::LineTask;
 use jptr_tasks::lines::Ended;
@@ -272,7 +273,7 @@ fn on_lines(
     let exact = ExactTask { run, style };
     match run_exact_lines(alloc, &exact, &mut input, &mut output, &mut errors) {
         Ok(Ended::Fine) => Ok(0),
-        Ok(Ended::WithErrors | Ended::Stopped) => Ok(NOT_APPLIED),
+        Ok(Ended::WithErrors | Ended::Stopped) => Ok(BAD_LINE),
         Err(TaskError::Read) => Err(input.get_ref().read_error(alloc, name_of(file))),
         Err(TaskError::Write) => Err(output.get_ref().error(alloc)),
         Err(error) => Err(ProgramError::of_error(alloc, name_of(file), "", error)),
@@ -287,7 +288,8 @@ fn line_task<'a>(
     layout: Layout,
 ) -> Result<LineTask<'a>, ProgramError> {
     let fallback = fallback_of(alloc, &task, layout)?;
-    let name = format!(in alloc; "jptr: {}", name_of(file_of(matches)))?;
+    let file = shown(alloc, name_of(file_of(matches)))?;
+    let name = format!(in alloc; "jptr: {file}")?;
     Ok(LineTask {
         task,
         layout,

@@ -4,11 +4,13 @@ use crate::expansion::check_toml_expansion;
 use crate::operands::argument;
 use crate::output::print_line;
 use crate::position::Position;
-use crate::program_error::{ProgramError, shown};
+use crate::program_error::ProgramError;
+use crate::shown::shown;
 use crate::source::Source;
+use crate::syntax::row_at;
 use crate::value_argument::{ValueArgument, toml_default};
 use clap::ArgMatches;
-use jptr_tasks::exit_status::{BAD_INPUT, NOT_APPLIED, USAGE};
+use jptr_tasks::exit_status::{BAD_INPUT, NOT_MADE, USAGE};
 use jptr_tasks::task_error::TaskError;
 use jsonptr::Pointer;
 use jsonptr_edit_in_toml::{Edited, assign_in_toml, delete_in_toml};
@@ -20,6 +22,12 @@ use simdutf8::basic::from_utf8;
 use std::alloc::{AllocError, Global};
 use toml::table_from_str;
 
+/// The flags that say nothing about a TOML document, or about how one is printed.
+const JSON_FLAGS: [&str; 4] = ["pretty", "compact", "sort-keys", "comments"];
+
+/// The flags with a value that say nothing about how a TOML document is printed.
+const JSON_VALUES: [&str; 2] = ["indent", "color"];
+
 /// Prints the value that the pointer resolves to, or the value of `--default`, as TOML.
 pub fn get(
     rt: &HostRuntime,
@@ -27,7 +35,7 @@ pub fn get(
     pointer: Pointer<'_>,
 ) -> Result<u8, ProgramError> {
     let alloc = rt.alloc();
-    check_no_lines(alloc, matches)?;
+    check_flags(alloc, matches, matches.get_str("default").is_some())?;
     let source = Source::open(rt, matches)?;
     let value = match resolve_in_toml(alloc, source.text(alloc)?, pointer) {
         Ok(value) => value,
@@ -50,7 +58,7 @@ pub fn set(
     pointer: Pointer<'_>,
 ) -> Result<u8, ProgramError> {
     let alloc = rt.alloc();
-    check_no_lines(alloc, matches)?;
+    check_flags(alloc, matches, true)?;
     let value = ValueArgument::read(rt, matches, argument(matches, "JSON"))?.toml(alloc, matches)?;
     let source = Source::open(rt, matches)?;
     if matches.get_flag("no-expand") {
@@ -72,7 +80,7 @@ pub fn delete(
     pointer: Pointer<'_>,
 ) -> Result<u8, ProgramError> {
     let alloc = rt.alloc();
-    check_no_lines(alloc, matches)?;
+    check_flags(alloc, matches, false)?;
     let source = Source::open(rt, matches)?;
     match delete_in_toml(alloc, source.text(alloc)?, pointer) {
         Ok(Some(edited)) => put(rt, matches, &source, pointer, edited),
@@ -109,12 +117,49 @@ fn put(
     Ok(0)
 }
 
-/// Fails if the flag `--lines` is there.
-fn check_no_lines(alloc: Global, matches: &ArgMatches<'_>) -> Result<(), ProgramError> {
+/// Fails if a flag is there that does nothing on TOML. The flag `--lossy` is for a value that is given.
+pub fn check_flags(
+    alloc: Global,
+    matches: &ArgMatches<'_>,
+    has_value: bool,
+) -> Result<(), ProgramError> {
     if matches.get_flag("lines") {
         return Err(ProgramError::new(alloc, USAGE, "--lines", "a line is no TOML document"));
     }
+    if let Some(name) = json_flag(matches) {
+        return Err(flag_error(alloc, name, "is for JSON, and the document is TOML"));
+    }
+    if matches.get_flag("lossy") && !has_value {
+        return Err(flag_error(
+            alloc,
+            "lossy",
+            "does nothing here: reading TOML loses no digit",
+        ));
+    }
     Ok(())
+}
+
+/// Returns the name of a flag that is there and is for JSON, if there is one.
+fn json_flag(matches: &ArgMatches<'_>) -> Option<&'static str> {
+    for name in JSON_FLAGS {
+        if matches.get_flag(name) {
+            return Some(name);
+        }
+    }
+    for name in JSON_VALUES {
+        if matches.get_str(name).is_some() {
+            return Some(name);
+        }
+    }
+    None
+}
+
+/// Returns the error of a flag that does nothing.
+fn flag_error(alloc: Global, name: &str, message: &str) -> ProgramError {
+    match format!(in alloc; "--{name}") {
+        Ok(flag) => ProgramError::new(alloc, USAGE, flag.as_str(), message),
+        Err(_) => ProgramError::Memory,
+    }
 }
 
 /// Returns the error of a text that is not read.
@@ -131,7 +176,7 @@ fn read_error(alloc: Global, source: &Source<'_>, error: ReadTomlError) -> Progr
 fn print_error(alloc: Global, source: &Source<'_>, error: PrintTomlError) -> ProgramError {
     match error {
         PrintTomlError::TooDeep | PrintTomlError::NoText => {
-            ProgramError::of_message(alloc, NOT_APPLIED, source.name, error.to_string(alloc))
+            ProgramError::of_message(alloc, NOT_MADE, source.name, error.to_string(alloc))
         }
         PrintTomlError::Memory(_) => ProgramError::Memory,
     }
@@ -176,15 +221,16 @@ fn refusal<E>(
     }
 }
 
-/// Returns why the text is not TOML, with the line and the column.
+/// Returns why the text is not TOML: the line and the column, and below them that line and a caret.
 fn not_toml(alloc: Global, text: &str) -> Result<String, AllocError> {
     match table_from_str(alloc, text) {
         Err(error) if error.is_memory() => Err(AllocError),
         Err(error) => {
             let start = error.span().map_or(0, |span| span.start);
             let Position { line, column } = Position::at(text, start);
-            let message = error.message();
-            format!(in alloc; "text is not TOML: {message} at line {line} column {column}")
+            let message = shown(alloc, error.message())?;
+            let row = row_at(alloc, text, start)?;
+            format!(in alloc; "text is not TOML: {message} at line {line} column {column}\n{row}")
         }
         Ok(_) => String::from_str(alloc, "text is not TOML"),
     }

@@ -3,7 +3,8 @@
 use crate::digits::{check_text, is_lossy};
 use crate::input::{is_standard, name_of, read_input, value_in};
 use crate::operands::file_of;
-use crate::program_error::{ProgramError, shown};
+use crate::program_error::ProgramError;
+use crate::shown::shown;
 use crate::source::past_mark;
 use clap::ArgMatches;
 use jptr_tasks::exit_status::{BAD_INPUT, USAGE};
@@ -178,6 +179,18 @@ pub fn toml_default(
     }
 }
 
+/// Returns the error of a text with this name that is not a TOML value.
+fn not_toml_value(alloc: Global, name: &str, text: &str) -> ProgramError {
+    let message = if text.starts_with('{') {
+        "not a TOML value: TOML writes {x = 1} for {\"x\": 1}"
+    } else if text.chars().next().is_some_and(|c| c.is_alphabetic()) {
+        "not a TOML value: a string needs quotes, or --string"
+    } else {
+        "not a TOML value"
+    };
+    ProgramError::new(alloc, BAD_INPUT, name, message)
+}
+
 /// Parses a text with this name as a TOML value, whose floats are printed anew.
 ///
 /// A number that loses digits is found as far as the text is JSON too.
@@ -190,7 +203,7 @@ fn toml_value(
     let value = match toml::Value::from_str(alloc, text) {
         Ok(value) => value,
         Err(error) if error.is_memory() => return Err(ProgramError::Memory),
-        Err(_) => return Err(ProgramError::new(alloc, BAD_INPUT, name, "not a TOML value")),
+        Err(_) => return Err(not_toml_value(alloc, name, text)),
     };
     if !is_lossy(matches) {
         check_text(alloc, name, text)?;

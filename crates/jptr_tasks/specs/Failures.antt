@@ -25,22 +25,22 @@ use Rattle.jptr_tasks.specs.declared.task_error.TaskError.TheVariants.{NotPatch,
 abbrev pub status_of_line : LineError → ℕ
 status_of_line line.NoTab = 3
 status_of_line line.NotPointer = 3
-status_of_line line.TooDeep = 1
+status_of_line line.TooDeep = 6
 status_of_line line.NotJson = 3
-status_of_line (line.Assign e) = 1
+status_of_line (line.Assign e) = 6
 
 -- `status_of_task e`: the exit status of the program after the error `e`
 abbrev pub status_of_task : TaskError → ℕ
-status_of_task (NotPatch e) = 1
+status_of_task (NotPatch e) = 3
 status_of_task (Resolve e) = 1
-status_of_task (Assign e) = 1
+status_of_task (Assign e) = 6
 status_of_task NotThere = 1
 status_of_task (PatchFailed e) = 1
-status_of_task TooDeep = 1
-status_of_task NotInPlace = 1
-status_of_task NotLocated = 1
-status_of_task PatchTooDeep = 3
-status_of_task LineBreak = 1
+status_of_task TooDeep = 6
+status_of_task NotInPlace = 6
+status_of_task NotLocated = 6
+status_of_task PatchTooDeep = 6
+status_of_task LineBreak = 6
 status_of_task (BadLine number e) = status_of_line e
 status_of_task NotUtf8 = 3
 status_of_task NotJson = 3

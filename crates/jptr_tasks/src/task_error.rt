@@ -3,7 +3,7 @@ ghost use Rattle.std.specs.Prelude.{◌≡◌};
 ghost use Rattle.jptr_tasks.specs.Failures.{of_read_error, of_in_text_error, of_locate_error, of_assign_error, of_patch_error, of_in_place_assign_error, of_in_place_delete_error, of_build_error, of_input_error, status_of_task, status_of_line};
 ghost use Rattle.jptr_tasks.specs.declared.task_error.TaskError.TheVariants.{Memory, Write};
 
-use crate::exit_status::{BAD_INPUT, FILE, MEMORY, NOT_APPLIED};
+use crate::exit_status::{BAD_INPUT, FILE, MEMORY, NO, NOT_MADE};
 use jsonptr::{assign, resolve};
 use jsonptr_edit_in_text::{EditError, InPlaceError, LocateError};
 use jsonptr_in_text::InTextError;
@@ -76,17 +76,15 @@ impl TaskError {
         ensures { result ≡ status_of_task self.now }
     {
         match self {
-            TaskError::NotPatch(_)
-            | TaskError::Resolve(_)
-            | TaskError::Assign(_)
-            | TaskError::NotThere
-            | TaskError::PatchFailed(_)
+            TaskError::Resolve(_) | TaskError::NotThere | TaskError::PatchFailed(_) => NO,
+            TaskError::Assign(_)
             | TaskError::TooDeep
             | TaskError::NotInPlace
             | TaskError::NotLocated
-            | TaskError::LineBreak => NOT_APPLIED,
+            | TaskError::PatchTooDeep
+            | TaskError::LineBreak => NOT_MADE,
             TaskError::BadLine(_, error) => line_status(error),
-            TaskError::PatchTooDeep | TaskError::NotUtf8 | TaskError::NotJson => BAD_INPUT,
+            TaskError::NotPatch(_) | TaskError::NotUtf8 | TaskError::NotJson => BAD_INPUT,
             TaskError::Memory(_) => MEMORY,
             TaskError::Read | TaskError::Write => FILE,
         }
@@ -99,7 +97,7 @@ fn line_status(error: &LineError) -> u8
 {
     match error {
         LineError::NoTab | LineError::NotPointer | LineError::NotJson => BAD_INPUT,
-        LineError::TooDeep | LineError::Assign(_) => NOT_APPLIED,
+        LineError::TooDeep | LineError::Assign(_) => NOT_MADE,
     }
 }
 
