@@ -206,16 +206,28 @@ fn moves_only_child(
         return Ok(false);
     }
     let text = source.text(alloc)?;
-    let is_only = matches!(length_in_text(alloc, text, parent), Ok(Some(1)));
-    let is_there = matches!(exists_in_text(alloc, text, from), Ok(true));
-    if !is_only || !is_there {
+    if if_json(exists_in_text(alloc, text, from))? != Some(true) {
         return Ok(false);
     }
-    match type_in_text(alloc, text, parent) {
-        Ok(NodeType::Object) => Ok(true),
-        Ok(_) => Ok(last.encoded() == "-"),
-        Err(_) => Ok(false),
+    match is_alone(alloc, text, parent, last) {
+        Ok(alone) => Ok(alone),
+        Err(error) => Err(source.error(alloc, parent.as_str(), error)),
     }
+}
+
+/// Returns whether the parent has one child, and the token is another place for it: a key of an object, or
+/// the end of an array.
+fn is_alone(
+    alloc: Global,
+    text: &str,
+    parent: Pointer<'_>,
+    token: Token<'_>,
+) -> Result<bool, TaskError> {
+    if length_in_text(alloc, text, parent)? != Some(1) {
+        return Ok(false);
+    }
+    let node_type = type_in_text(alloc, text, parent)?;
+    Ok(matches!(node_type, NodeType::Object) || token.encoded() == "-")
 }
 
 /// Returns the pointer of the member with this key.
