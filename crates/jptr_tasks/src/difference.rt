@@ -35,8 +35,8 @@ pub struct PatchText {
 ///
 /// # Errors
 ///
-/// - [`TaskError::PatchTooDeep`] if the patch document nests deeper than 127. A value is two levels
-///   deeper in it than in `new`, less the levels of its pointer: so `new` nests deeper than 125.
+/// - [`TaskError::PatchTooDeep`], only if `new` nests deeper than 125: a value is two levels deeper in
+///   the patch document, less the levels of its pointer. That this one nests deeper than 127 is tested.
 /// - [`TaskError::Memory`] if an allocation fails.
 ///
 /// # Examples

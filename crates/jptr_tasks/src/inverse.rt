@@ -28,7 +28,7 @@ use std::alloc::Global;
 ///   operation fails.
 /// - [`TaskError::NotJson`] if the text is not JSON.
 /// - [`TaskError::PatchTooDeep`] if the inverse nests deeper than 127. A value of the document is two
-///   levels deeper in it, less the levels of its pointer.
+///   levels deeper in it, less the levels of its pointer. That it is the inverse that was made is tested.
 /// - [`TaskError::Memory`] if an allocation fails.
 ///
 /// # Examples

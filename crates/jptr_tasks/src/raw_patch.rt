@@ -14,7 +14,8 @@ use serde_json::Value;
 pub struct RawPatch {
     /// The document.
     pub document: Value,
-    /// Its operations. Where an `add` or a `replace` has a text, that is what is put into a document.
+    /// Its operations. Where an `add` or a `replace` has a text, what is put into a document holds the
+    /// tokens of it.
     pub operations: Vec<RawOperation>,
     pub ghost is_patch: { IsPatch (view document) (operations_in operations.items) } by { IsPatch-prop (view document) (operations_in operations.items) },
 }

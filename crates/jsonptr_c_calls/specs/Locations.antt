@@ -40,8 +40,8 @@ PointsAt t k bytes =
     (tokens : List Text) × (before piece after : Text) × HasTokens bytes tokens
     × IsLocatedAt t k tokens before piece after
 
--- `LacksPointerAt t k room e`: the byte of `t` at the offset `k` is none of the document's, or the pointer of the value there is
--- longer than `room` bytes, and `e` reports that
+-- `LacksPointerAt t k room e`: the byte of `t` at the offset `k` is none of some bytes that read as the document, or the pointer of
+-- the value there is longer than `room` bytes, and `e` reports that
 abbrev pub LacksPointerAt : List ℕ → ℕ → ℕ → CallError → Type 0
 LacksPointerAt t k room e =
     (IsOutside t k × (e ≡ NoValue k))

@@ -31,7 +31,7 @@ pub fn message_law()
 
 /// States that what a call is passed fixes the status with which it fails, except that an allocation
 /// can fail. Of `lost_number`, `patch_with_inverse` and `pointer_at` a buffer that is too short is left
-/// out, and `diff` as a whole.
+/// out, and `diff` and `message` as a whole.
 pub fn one_error_law()
     ensures count { (bytes : List ℕ) (e f : CallError)
         → IsNoPointer bytes e → IsNoPointer bytes f → SameStatus e f }

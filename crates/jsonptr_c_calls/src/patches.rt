@@ -109,7 +109,7 @@ pub struct Patched {
 ///
 /// - Those of [`apply_all`].
 /// - [`CallError::InverseTooDeep`] if the patch document that takes them back nests deeper than 127, so
-///   that its text would not be read.
+///   that its text would not be read. That it is the one that was made is tested.
 ///
 /// # Conditions
 ///

@@ -31,9 +31,9 @@ GoesThroughBoth n m ts =
     (front : List Text) (x : Text) (rest : List Text) → ts ≡ front ++ x ∷ rest → IsSome (n (keys front))
     → AreOfOneKind (n (keys front)) (m (keys front))
 
--- `IsChange n m o`: the operation `o` adds, removes or replaces a value. All that its pointer leads through differs in the
--- maps `n` and `m`, and is an object or an array in both. What it adds is no member of an object of `n`, and what it removes
--- none of one of `m`. What it replaces is not an object in both, and not an array in both
+-- `IsChange n m o`: the operation `o` adds, removes or replaces a value. As far as objects lead from the root, all that its
+-- pointer leads through differs in the maps `n` and `m`, and is an object or an array in both. What it adds is no member of an
+-- object of `n`, and what it removes none of one of `m`. What it replaces is not an object in both, and not an array in both
 abbrev pub IsChange : NodeMap → NodeMap → Operation → Type 0
 IsChange n m (Add path value) = DifferAlong n m path × (n (keys path) ≡ None) × GoesThroughBoth n m path
 IsChange n m (Remove path) = DifferAlong n m path × (m (keys path) ≡ None) × GoesThroughBoth n m path

@@ -54,7 +54,7 @@ pub record AppendsAdd (before after : List Operation) (tokens : List Text) (d : 
 
 -- `Turns goal before after base c d`: the operations `before` and then some are `after`. Where `before` leads to a map
 -- in which `base` names a node with the map `c`, `after` leads to the map with `d` there instead. If the keys in
--- `goal` are sorted, so are those in the values of the further operations, none of which nests deeper than `goal`
+-- `goal` are sorted, so are those in the values of the further operations, and none of these values nests deeper than `goal`
 pub record Turns (goal : Data) (before after : List Operation) (base : List Text) (c d : NodeMap) : Type 0 where
   pub leads : (n m : NodeMap) (w : Path)
       → Patches n before m → Names m base w → c ≡ sub m w → Patches n after (put m w d)

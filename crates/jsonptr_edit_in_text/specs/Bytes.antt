@@ -31,8 +31,8 @@ pub record ReplacesBytes (old new : Text) (tokens : List Text) (e : Data) : Type
   pub whole : IsValueText value middle
   pub made : IsValueText e piece
 
--- `ExpandsBytes old new front more v`: `tokens` lead no further than `front`, to a scalar, and exactly its text is replaced
--- by a text of `v` expanded by `more`
+-- `ExpandsBytes old new front more v`: `tokens` lead no further than `front`, to a scalar, and a part that reads as it is
+-- replaced by a text of `v` expanded by `more`
 pub record ExpandsBytes (old new : Text) (front more : List Text) (v : Data) : Type 0 where
   pub whole : Data
   pub whole_is : nodes whole ≡ expanded more (nodes v)
@@ -96,7 +96,7 @@ pub record CutsMembers (old new : Text) (front : List Text) (x : Text) : Type 0 
   pub cuts : CutsBytes old first (Some x) v
   pub again : CutsInTurn x first mids new
 
--- `CutsElement old new front x`: `front` leads to an array, and its element at the index `x` is cut out
+-- `CutsElement old new front x`: `front` leads to an array, and an element that reads as the one at the index `x` is cut out
 pub record CutsElement (old new : Text) (front : List Text) (x : Text) : Type 0 where
   pub ds : Items
   pub i : ℕ
@@ -110,8 +110,8 @@ pub record CutsElement (old new : Text) (front : List Text) (x : Text) : Type 0 
 abbrev pub CutsChild : Text → Text → List Text → Text → Type 0
 CutsChild old new front x = CutsMembers old new front x ⊎ CutsElement old new front x
 
--- `AssignsBytes old tokens v new`: the text of one value, to which all tokens lead, is replaced by a text of `v`; or `tokens`
--- stop at a scalar, which is replaced by `v` expanded; or they stop at an object or an array, to which one child is added
+-- `AssignsBytes old tokens v new`: a part that reads as the value to which all tokens lead is replaced by a text of `v`; or
+-- `tokens` stop at a scalar, which is replaced by `v` expanded; or they stop at an object or an array, to which one child is added
 abbrev pub AssignsBytes : Text → List Text → Data → Text → Type 0
 AssignsBytes old tokens v new =
     ReplacesBytes old new tokens v

@@ -25,8 +25,8 @@ abbrev pub PatchesInText : Text → List Operation → Text → Type 0
 PatchesInText old os new =
     (d d2 : Data) × (read old ≡ Some d) × (read new ≡ Some d2) × PatchesBy Numeric (nodes d) os (nodes d2)
 
--- `AddsAtBytes old tokens e new`: the text of the value that `tokens` identify is replaced by a text of `e`, or one child with
--- the value `e` is added, which the last token refers to
+-- `AddsAtBytes old tokens e new`: a part that reads as the value that `tokens` identify is replaced by a text of `e`, or one
+-- child with the value `e` is added, which the last token refers to
 abbrev pub AddsAtBytes : Text → List Text → Data → Text → Type 0
 AddsAtBytes old tokens e new =
     ReplacesBytes old new tokens e

@@ -102,9 +102,10 @@ pub fn apply_in_text_with(
 /// Applies the operations of a patch in order to the document that the text contains, as
 /// [`apply_in_text_with`] does, each with the text of its value.
 ///
-/// Where an `add` or a `replace` has such a text, what is put into the document has its tokens, one for
-/// one: the members in their order, and the numbers as they are written. Only a document that is
-/// [`Rewritten`](Edited::Rewritten) has all values printed.
+/// Where an `add` or a `replace` has such a text, what is put into the document holds its tokens, one for
+/// one: the members in their order, and the numbers as they are written. That it is nothing else but a
+/// key, a comma and white space is tested. Only a document that is [`Rewritten`](Edited::Rewritten) has
+/// all values printed.
 ///
 /// # Errors
 ///

@@ -20,9 +20,10 @@
 //!
 //! - *Meaning*: the new text reads as the document that the call on documents makes of the document
 //!   that the old text reads as.
-//! - *Bytes*: one piece changes. It reads as the value that is replaced, or it is one child that is
-//!   added or removed, with white space and at most one comma beside it. That it begins and ends between
-//!   tokens, and is that value's own text, is tested.
+//! - *Bytes*: one piece changes, or one for each operation of a patch, and for each member with the key
+//!   that is deleted. It reads as the value that is replaced, or it is one child that is added or
+//!   removed, with white space and at most one comma beside it. That it begins and ends between tokens,
+//!   and is that value's own text, is tested.
 //!
 //! To edit many texts keep one [`Buffers`], and pass it to each call that takes one: it keeps its
 //! memory from text to text.

@@ -69,8 +69,8 @@ impl From<AllocError> for LocateError {
 /// value, with its members in their order, its numbers and escapes as they are written, and the white
 /// space within it. Of a repeated key the last member counts.
 ///
-/// Reads the text twice, and builds no document. Of two equal values with other texts, as `1.0` and
-/// `1.00`, the contract does not say that it is the text of the right one.
+/// Reads the text twice, and builds no document. That the second part reads as the value is proved; that
+/// it is the value's own text, and no other bytes that read so, is tested.
 ///
 /// # Errors
 ///

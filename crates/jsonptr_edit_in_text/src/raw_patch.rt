@@ -238,7 +238,8 @@ impl RawOperation {
     }
 
     /// Returns the operation with the text of its value, or `None` if the text is not read as exactly
-    /// that value. Only the text of an `add` and of a `replace` is looked at.
+    /// that value (that it is `None` only then is tested). Only the text of an `add` and of a `replace`
+    /// is looked at.
     ///
     /// # Errors
     ///

@@ -60,8 +60,8 @@ ReplacesToml old ts v middle piece = (w : Data) × FindsInToml old ts w × IsAlo
 abbrev pub AddsTomlChild : List Text → Data → Text → Text → Type 0
 AddsTomlChild ts v middle piece = IsOneTomlChild ts v piece × ((lead rest : Text) × (piece ≡ lead ++ (middle ++ rest))) × IsFiller middle
 
--- `AssignsTomlBytes old ts v new`: the text of the value that the tokens identify is replaced by a text of `v`, or a text
--- of one member or element with the value `v` is added, and nothing is taken away
+-- `AssignsTomlBytes old ts v new`: a piece that reads, alone, as the value that the tokens identify is replaced by a text of
+-- `v`, or a text of one member or element with the value `v` is added, and nothing is taken away
 pub record AssignsTomlBytes (old : Text) (ts : List Text) (v : Data) (new : Text) : Type 0 where
   pub middle : Text
   pub piece : Text

@@ -29,8 +29,9 @@ use toml::Value;
 /// Assigns the value at the pointer in the document that the text contains, as
 /// [`Assign::assign`](jsonptr::assign::Assign) does.
 ///
-/// One piece of the text changes: the text of a value is replaced, or a member or an element is put in
-/// as its siblings are. All other bytes stay. If that is not possible, the document is printed anew.
+/// One piece of the text changes: a piece that reads as the value is replaced, or a member or an element
+/// is put in as its siblings are. All other bytes stay. That the piece is no more than the text of the
+/// value is tested. If that is not possible, the document is printed anew.
 ///
 /// Reads the old and the new text once each, scans the old one once more, and allocates for both
 /// documents.

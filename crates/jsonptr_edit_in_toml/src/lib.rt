@@ -1,4 +1,4 @@
-//! Edits a TOML document in its text, so that its comments and its layout stay.
+//! Edits a TOML document in its text, in place.
 //!
 //! ```rust
 //! let text = "# The size\nsize = 3 # as ever\n";
@@ -12,7 +12,8 @@
 //!
 //! Each call makes two promises. *Meaning*: the new text reads as the document that the call on
 //! documents makes of the document that the old text reads as. *Bytes*, in place: one piece of the text
-//! changes. What is replaced, put in or cut out reads, alone, as exactly the value.
+//! changes. What is replaced, put in or cut out reads, apart from a comma and comments beside it, as
+//! exactly the value. That all other comments and the layout stay is tested.
 //!
 //! In the examples `rt` is the runtime that `main` and each test receive, and `alloc` is
 //! `rt.alloc()`, the allocator.

@@ -64,7 +64,7 @@ pub fn read_all<R: Read>(alloc: Global, input: &mut R) -> Result<Vec<u8>, InputE
 /// # Errors
 ///
 /// [`InputError::Read`] if a read fails, and [`InputError::Memory`] if the allocation for the bytes
-/// fails. Then `bytes` has those that were read before.
+/// fails (which of the two it is, is tested). Then `bytes` has those that were read before.
 ///
 /// # Examples
 ///

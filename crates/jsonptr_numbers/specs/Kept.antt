@@ -26,7 +26,7 @@ pub record IsFloatText (x : Float) (s : List ℕ) : Type 0 where
   pub reads : number_of s ≡ Some (float x)
 
 -- `KeepsValue raw n`: the number `n`, printed, has the decimal value of `raw`: a whole number has the digits of `raw`, which has no
--- point and no exponent; a float is printed as a text of this value, with at most 17 significant digits
+-- point and no exponent; a float has a text in the printer's form of this value, with at most 17 significant digits
 abbrev pub KeepsValue : List ℕ → Num → Type 0
 KeepsValue raw (unsigned n) = IsInteger (parts_of raw) × (n ≡ digits_of (parts_of raw))
 KeepsValue raw (negative z) = IsInteger (parts_of raw) × (z ≡ with_sign true (digits_of (parts_of raw)))
@@ -36,8 +36,8 @@ KeepsValue raw (float x) = (s : List ℕ) × IsFloatText x s × HasShortDigits (
 abbrev pub IsKeptNumber : List ℕ → Type 0
 IsKeptNumber raw = (n : Num) × (number_of raw ≡ Some n) × KeepsValue raw n
 
--- `IsLost raw`: `raw` is out of range, or it is read as a float that is printed with another decimal value. A number whose
--- exponent has more than 64 bits counts as lost; that no printed text is longer than `HasShortDigits` says is not proved of the printer
+-- `IsLost raw`: `raw` is out of range, or it is read as a float, of which some text in the printer's form has another decimal value
+-- or more digits than `HasShortDigits` says. A number whose exponent has more than 64 bits counts as lost
 abbrev pub IsLost : List ℕ → Type 0
 IsLost raw =
     (number_of raw ≡ None)

@@ -17,7 +17,7 @@ abbrev pub IsAt : Text → Text → ℕ → Type 0
 IsAt text raw n = take (length raw) (drop n text) ≡ raw
 
 -- `LocatesNumber text raw lost`: `lost` has the length of the number `raw`. If it has a pointer, this identifies the number in `text`,
--- and if it has an offset, the number is there
+-- and if it has an offset, its bytes are there
 pub record LocatesNumber (text raw : Text) (lost : Lost) : Type 0 where
   pub identified : IfSome lost.pointer (Identifies text raw)
   pub at : IfSome lost.offset (IsAt text raw)

@@ -11,7 +11,7 @@ use crate::normal::{has_minus, have_same_value, numeral_of};
 use fast_float::Numeral;
 
 /// Returns whether the number that is read from the text is printed with the decimal value of the
-/// text.
+/// text. Of floats with at most 17 significant digits, that is tested.
 ///
 /// The text is that of a number ([RFC 8259](https://www.rfc-editor.org/rfc/rfc8259#section-6), section
 /// 6). Any other text counts as the number that it begins with, or as zero. Nothing is allocated.

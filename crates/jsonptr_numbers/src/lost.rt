@@ -17,8 +17,9 @@ pub struct Lost {
     /// Resolves, in the text, to what the number is read as. `None` if that is not so, as for a member
     /// whose key comes again.
     pub pointer: Option<PointerBuf>,
-    /// The offset at which the number begins in the text, in bytes. `None` if the check of it fails. No
-    /// text is known for which it does.
+    /// The offset at which the number begins in the text, in bytes: its bytes are there, and that it is
+    /// the number's own place is tested. `None` if the check of it fails. No text is known for which it
+    /// does.
     pub offset: Option<usize>,
     /// The length of the number in the text, in bytes.
     pub length: usize,
