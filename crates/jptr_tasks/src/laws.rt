@@ -1,7 +1,7 @@
 //! Laws of what the commands print. Each law is the contract of a function that does nothing.
 //!
 //! - [`one_error`]: a task has at most one error on a text.
-ghost use Rattle.std.specs.Prelude.{◌≡◌, ◌≢◌, ◌⊎◌, ◌↔◌, ℕ, List, [], ◌∷◌, ◌++◌, length, Some, string_bytes};
+ghost use Rattle.std.specs.Prelude.{◌≡◌, ◌≢◌, ◌⊎◌, ◌↔◌, Bool, true, false, ℕ, List, [], ◌∷◌, ◌++◌, length, Some, string_bytes};
 ghost use Rattle.std.specs.Str.{IsUtf8};
 ghost use Rattle.std.specs.declared.alloc.AllocError.{AllocError};
 ghost use Rattle.serde_json.specs.Data.{Data};
@@ -21,12 +21,14 @@ ghost use Rattle.jptr_tasks.specs.Differences.{IsDifference};
 ghost use Rattle.jptr_tasks.specs.Inverting.{IsInverse};
 ghost use Rattle.jptr_tasks.specs.Layouts.{ShowsInLayout, ReadsBack};
 ghost use Rattle.jptr_tasks.specs.Paths.{ListsText, BuildsText, FailsToBuild};
+ghost use Rattle.jptr_tasks.specs.Replacement.{AtEachMoment, IsDurable, IsGuarded, IsReplaced};
 ghost use Rattle.jptr_tasks.specs.Results.{PatchesBytesInLayout, FailsToPatch};
 ghost use Rattle.jptr_tasks.specs.declared.difference.PatchText.{PatchText};
 ghost use Rattle.jptr_tasks.specs.declared.task_error.TaskError.{TaskError};
 ghost use Rattle.jptr_tasks.specs.declared.task_error.TaskError.TheVariants.{BadLine, NotInPlace, NotJson, Memory};
 ghost use Rattle.jptr_tasks.specs.declared.layout.Layout.{Layout};
 ghost use Rattle.jptr_tasks.specs.declared.line.LineTask.{LineTask};
+ghost use Rattle.jptr_tasks.specs.declared.replacement.Event.TheVariants.{Create, Look, Remove, Rename, Sync, SyncFolder, TakeRights, Write};
 ghost use Rattle.jptr_tasks.specs.declared.raw_patch.RawPatch.{RawPatch};
 ghost use Rattle.jptr_tasks.specs.declared.task.Task.{Task};
 ghost use Rattle.jptr_tasks.specs.declared.task.Task.TheVariants.{Patch};
@@ -157,3 +159,26 @@ pub fn order_law()
 {
     patch_document_law();
 }
+
+/// States which calls do not replace a file, the latest call first.
+///
+/// Calls that write the text twice, not at all or in part leave another text (`twice`, `not_at_all`,
+/// `in_part`), and so does any write after the rename (`late`). If the temporary file was removed before
+/// the rename, nothing can be read after it (`removed`). If it was not synced, a crash may leave any text
+/// (`not_synced`). Rights that were taken before it was created guard nothing (`open_to_all`).
+pub fn replacement_law()
+    ensures twice { IsReplaced (Rename true ∷ Look true ∷ Sync true ∷ TakeRights true
+        ∷ Write true ∷ Write true ∷ Create true ∷ []) → ⊥ }
+    ensures not_at_all { IsReplaced (Rename true ∷ Look true ∷ Sync true ∷ TakeRights true
+        ∷ Create true ∷ []) → ⊥ }
+    ensures in_part { IsReplaced (Rename true ∷ Look true ∷ Sync true ∷ TakeRights true
+        ∷ Write false ∷ Create true ∷ []) → ⊥ }
+    ensures late { (done : Bool) → IsReplaced (Write done ∷ Rename true ∷ Look true ∷ Sync true
+        ∷ TakeRights true ∷ Write true ∷ Create true ∷ []) → ⊥ }
+    ensures removed { AtEachMoment (Rename true ∷ Remove true ∷ Look true ∷ Sync true
+        ∷ TakeRights true ∷ Write true ∷ Create true ∷ []) → ⊥ }
+    ensures not_synced { IsDurable (SyncFolder true ∷ Rename true ∷ Look true ∷ TakeRights true
+        ∷ Write true ∷ Create true ∷ []) → ⊥ }
+    ensures open_to_all { IsGuarded (Rename true ∷ Look true ∷ Sync true ∷ Write true
+        ∷ Create true ∷ TakeRights true ∷ []) → ⊥ }
+{}
