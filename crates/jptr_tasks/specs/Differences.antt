@@ -5,7 +5,7 @@ use Rattle.serde_json.specs.Read.{read, max_depth}
 use Rattle.jsonptr.specs.Node.{NodeMap}
 use Rattle.jsonptr_patch.specs.Patching.{Patches}
 use Rattle.jsonptr_patch.specs.declared.operation.Operation.{Operation}
-use Rattle.jsonptr_diff.specs.Diff.{IsChange}
+use Rattle.jsonptr_diff.specs.Diff.{IsChange, StepsTo}
 use Rattle.jsonptr_patch_document.specs.Writing.{document_of}
 use Rattle.jptr_tasks.specs.Layouts.{ShowsInLayout}
 use Rattle.jptr_tasks.specs.declared.difference.PatchText.{PatchText}
@@ -23,10 +23,12 @@ IsDifference n m layout d =
     × (read (string_bytes d.text) ≡ Some (document_of os))
     × ((d.is_empty ≡ true) ↔ (os ≡ []))
 
--- `HasChanges n m d`: the text of `d` is read as the patch document of operations that are changes of `n` into `m`
+-- `HasChanges n m d`: the text of `d` is read as the patch document of operations that are changes of `n` into `m`, and each a step
+-- to `m`
 abbrev pub HasChanges : NodeMap → NodeMap → PatchText → Type 0
 HasChanges n m d =
     (os : List Operation) × (read (string_bytes d.text) ≡ Some (document_of os)) × All (IsChange n m) os
+    × StepsTo m n os m
 
 -- `FailsToDiffer new e`: `e` is why no patch document of operations that make the document `new` is printed, unless an
 -- allocation failed. A value is two levels deeper in the patch document

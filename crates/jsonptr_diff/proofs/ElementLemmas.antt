@@ -1,5 +1,5 @@
 -- The operations that turn one array into another: arrays of the first elements of one and the last of another.
-use Rattle.std.proofs.Common.{◌≡◌, ℕ, zero, suc, ◌+◌, ◌-◌, ◌<◌, ◌≤◌, false, List, [], ◌∷◌, ◌++◌, length, get_or, drop, Option, Some, is_some, IsSome, ⊎_elim, Vec, Global, refl, sym, ap, ◌∙◌, subst, arith}
+use Rattle.std.proofs.Common.{◌≡◌, ℕ, zero, suc, ◌+◌, ◌-◌, ◌<◌, ◌≤◌, List, [], ◌∷◌, ◌++◌, length, get_or, drop, Option, Some, is_some, IsSome, inr, ⊎_elim, Vec, Global, refl, sym, ap, ◌∙◌, subst, arith}
 use mathlib.Core.Path.{fun_ext}
 use Rattle.std.specs.List.{slice_range}
 use Rattle.std.proofs.lemmas.List.{get_or-take, get_or-drop}
@@ -11,24 +11,25 @@ use Rattle.serde_json.specs.declared.value.Value.{Value, Null, Array}
 use Rattle.serde_json.proofs.Views.{view-Array}
 use Rattle.jsonptr.specs.Text.{Text, dec}
 use Rattle.jsonptr.specs.Node.{Step, key, place, Path, Label, an_array, NodeMap, sub, NamesStep}
-use Rattle.jsonptr.specs.Put.{same_step, put}
-use Rattle.jsonptr.specs.Json.{nodes, HasSortedKeys}
+use Rattle.jsonptr.specs.Put.{put}
+use Rattle.jsonptr.specs.Json.{nodes}
 use Rattle.jsonptr.specs.Removing.{one_less, without_place}
 use Rattle.jsonptr_tree.proofs.JsonLemmas.{content_of, content_one, array_is, ascends_part}
 use Rattle.jsonptr_tree.proofs.LevelLemmas.{content_at-Array}
-use Rattle.jsonptr_tree.proofs.PutLemmas.{cases_same, same_by_step, sub-put, put-other_step}
+use Rattle.jsonptr_tree.proofs.PutLemmas.{same_by_step, sub-put, put-other_step}
 use Rattle.jsonptr_tree.proofs.RemovingLemmas.{place_before-below, place_before-from}
 use Rattle.jsonptr_document.proofs.JsonLevel.{array_at}
 use Rattle.jsonptr_patch.specs.Inserting.{with_place}
 use Rattle.jsonptr_patch.specs.declared.operation.Operation.{Operation}
 use Rattle.jsonptr_patch.proofs.InsertingLemmas.{with_place-same, with_place-below, with_place-above, with_place-root}
 use Rattle.jsonptr_patch.proofs.TestingLemmas.{element_label, past_label, array_label, no_key_label, any_default}
+use Rattle.jsonptr_diff.specs.Diff.{AreOfOneKind, IsDoneBefore}
 use Rattle.jsonptr_diff.specs.PrivateSame.{IsSame, SameSuffix, AreSameFrom}
-use Rattle.jsonptr_diff.specs.PrivateDiff.{AppendsRemove, AppendsAdd, AppendsChanges, AppendsParts, Turns, array_map, IsArray, IsLike, IsSpliced, Splices}
+use Rattle.jsonptr_diff.specs.PrivateDiff.{AppendsRemove, AppendsAdd, AppendsChanges, AppendsParts, Turns, array_map, IsArray, IsArrayOf, IsLike, IsSpliced, Splices}
 use Rattle.jsonptr_diff.specs.PrivateSame.{SameElements}
 use Rattle.jsonptr_diff.proofs.ChangeLemmas.{parts_changes}
 use Rattle.jsonptr_diff.proofs.SameLemmas.{twin_same, twin_made, elements_same}
-use Rattle.jsonptr_diff.proofs.TurningLemmas.{turns_nowhere, turns_further, turns_as, turns_part, turns_below, turns_remove_element, turns_add_element}
+use Rattle.jsonptr_diff.proofs.TurningLemmas.{turns_nowhere, turns_further, turns_as, turns_below, turns_remove_element, turns_add_element, other_place}
 
 -- ---- the maps of elements
 
@@ -59,12 +60,6 @@ array_is_array v = record {
 }
 
 -- ---- spliced arrays
-
-other_place : (i j : ℕ) → (i ≡ j → ⊥) → same_step (place i) (place j) ≡ false
-other_place i j apart = ⊎_elim (λ (e : place i ≡ place j). absurd (apart (same e))) (λ (f : same_step (place i) (place j) ≡ false). f) (cases_same (place i) (place j))
-  where
-    same : place i ≡ place j → i ≡ j
-    same e = cc
 
 -- at the beginning
 spliced_start : (c d : NodeMap) (len : ℕ) → IsArray c len → IsSpliced c d 0 0 len c
@@ -192,8 +187,23 @@ same_rest v w k i n s e f j = ⊎_elim
 label_some : (e : NodeMap) (l : Label) → e [] ≡ Some l → IsSome (e [])
 label_some e l is = subst (λ (o : Option Label). IsSome o) (sym is) refl
 
-pub splices_start : (goal : Data) (before : List Operation) (base : List Text) (c d : NodeMap) (len : ℕ) → IsArray c len → Splices goal before before base c d 0 0 len
-splices_start goal before base c d len a = (c, spliced_start c d len a, turns_nowhere goal before base c c refl)
+pub splices_start : (goal : Data) (before : List Operation) (base : List Text) (c d : NodeMap) (len : ℕ) → IsArray c len → IsArrayOf goal d → Splices goal before before base c d 0 0 len
+splices_start goal before base c d len a all = (c, spliced_start c d len a, turns_nowhere goal before base c c refl, all)
+
+-- the map of an array that is the goal
+pub array_of : (v : Vec Value Global) → IsArrayOf (view (Array v)) (array_map v)
+array_of v = record {
+  is = refl;
+  len = length v.items;
+  root = array_label v;
+}
+
+-- both are arrays, and all elements before the next one are done
+spliced_kind : (goal : Data) (c d : NodeMap) (i k left : ℕ) (e : NodeMap) → IsSpliced c d i k left e → IsArrayOf goal d → AreOfOneKind (e []) (nodes goal [])
+spliced_kind goal c d i k left e s all = inr (i + left, all.len, s.root, sym (ap (λ (q : NodeMap). q []) all.is) ∙ all.root)
+
+spliced_done : (goal : Data) (c d : NodeMap) (i k left : ℕ) (e : NodeMap) → IsSpliced c d i k left e → IsArrayOf goal d → IsDoneBefore e (nodes goal) [] (place i)
+spliced_done goal c d i k left e s all = λ j low. s.front j low ∙ ap (λ (q : NodeMap). sub q (place j ∷ [])) all.is
 
 -- the element at index i of a spliced array is that of c at index k
 rest_first : (c d : NodeMap) (i k left : ℕ) (e : NodeMap) → IsSpliced c d i k left e → sub e (place i ∷ []) ≡ sub c (place k ∷ [])
@@ -204,35 +214,41 @@ rest_first c d i k left e s =
 
 -- an element that is the same
 pub splices_keep : (goal : Data) (first last : List Operation) (base : List Text) (c d : NodeMap) (i k left : ℕ) → sub c (place k ∷ []) ≡ sub d (place i ∷ []) → Splices goal first last base c d i k (suc left) → Splices goal first last base c d (suc i) (suc k) left
-splices_keep goal first last base c d i k left same (e, s, turns) = (e, spliced_keep c d i k left e same s, turns)
+splices_keep goal first last base c d i k left same (e, s, turns, all) = (e, spliced_keep c d i k left e same s, turns, all)
 
 -- an element that is followed
-pub splices_put : (goal part : Data) (first before after : List Operation) (base : List Text) (c d : NodeMap) (i k left len : ℕ) (v w : NodeMap) → IsLike goal part → IsArray c len → k < len → sub c (place k ∷ []) ≡ v → sub d (place i ∷ []) ≡ w → Splices goal first before base c d i k (suc left) → Turns part before after (base ++ dec i ∷ []) v w → Splices goal first after base c d (suc i) (suc k) left
-splices_put goal part first before after base c d i k left len v w like a inside old new (e, s, turns) child =
+pub splices_put : (goal part : Data) (first before after : List Operation) (base : List Text) (c d : NodeMap) (i k left len : ℕ) (v : NodeMap) → IsLike goal part → IsArray c len → k < len → sub c (place k ∷ []) ≡ v → sub d (place i ∷ []) ≡ nodes part → Splices goal first before base c d i k (suc left) → Turns part before after (base ++ dec i ∷ []) v (nodes part) → Splices goal first after base c d (suc i) (suc k) left
+splices_put goal part first before after base c d i k left len v like a inside old new (e, s, turns, all) child =
+    let w = nodes part in
     let here : v ≡ sub e (place i ∷ []) = sym old ∙ sym (rest_first c d i k (suc left) e s) in
     let there : IsSome (e (place i ∷ [])) = subst (λ (q : NodeMap). IsSome (q [])) (old ∙ here) (a.full k inside) in
-    let step : Turns goal before after base e (put e (place i ∷ []) w) = turns_below goal before after base (dec i) (place i) e v w (subst (λ (l : Option Label). NamesStep l (dec i) (place i)) (sym s.root) (omega arith, refl)) there here (turns_part goal part before after (base ++ dec i ∷ []) v w like child) in (
+    let final = sym new ∙ ap (λ (q : NodeMap). sub q (place i ∷ [])) all.is in
+    let step : Turns goal before after base e (put e (place i ∷ []) w) = turns_below goal part before after base (dec i) (place i) e v w like final (subst (λ (l : Option Label). NamesStep l (dec i) (place i)) (sym s.root) (omega arith, refl)) there here (spliced_kind goal c d i k (suc left) e s all) (spliced_done goal c d i k (suc left) e s all) child in (
       put e (place i ∷ []) (sub d (place i ∷ [])),
       spliced_put c d i k left e s,
       turns_further goal first before after base c e (put e (place i ∷ []) (sub d (place i ∷ []))) (label_some e _ s.root) turns (subst (λ (q : NodeMap). Turns goal before after base e (put e (place i ∷ []) q)) (sym new) step),
+      all,
     )
 
 -- an element that is removed
 pub splices_less : (goal : Data) (first before after : List Operation) (base : List Text) (c d : NodeMap) (i k left len : ℕ) → IsArray c len → k < len → Splices goal first before base c d i k (suc left) → AppendsRemove before after (base ++ dec i ∷ []) → Splices goal first after base c d i (suc k) left
-splices_less goal first before after base c d i k left len a inside (e, s, turns) gone =
+splices_less goal first before after base c d i k left len a inside (e, s, turns, all) gone =
     let there : IsSome (e (place i ∷ [])) = subst (λ (q : NodeMap). IsSome (q [])) (sym (rest_first c d i k (suc left) e s)) (a.full k inside) in (
       without_place i e,
       spliced_less c d i k left e s,
-      turns_further goal first before after base c e (without_place i e) (label_some e _ s.root) turns (turns_remove_element goal before after base i (i + suc left) e s.root (omega arith) there gone),
+      turns_further goal first before after base c e (without_place i e) (label_some e _ s.root) turns (turns_remove_element goal before after base i (i + suc left) e (spliced_kind goal c d i k (suc left) e s all) (spliced_done goal c d i k (suc left) e s all) s.root (omega arith) there gone),
+      all,
     )
 
 -- an element that is inserted
 pub splices_more : (goal part : Data) (first before after : List Operation) (base : List Text) (c d : NodeMap) (i k left : ℕ) → IsLike goal part → sub d (place i ∷ []) ≡ nodes part → Splices goal first before base c d i k left → AppendsAdd before after (base ++ dec i ∷ []) part → Splices goal first after base c d (suc i) k left
-splices_more goal part first before after base c d i k left like is (e, s, turns) comes =
-    let step = turns_part goal part before after base e (with_place i (nodes part) e) like (turns_add_element before after base i (i + left) e part s.root (omega arith) comes) in (
+splices_more goal part first before after base c d i k left like is (e, s, turns, all) comes =
+    let final = sym is ∙ ap (λ (q : NodeMap). sub q (place i ∷ [])) all.is in
+    let step = turns_add_element goal before after base i (i + left) e part like (spliced_kind goal c d i k left e s all) (spliced_done goal c d i k left e s all) final s.root (omega arith) comes in (
       with_place i (sub d (place i ∷ [])) e,
       spliced_more c d i k left e s,
       turns_further goal first before after base c e (with_place i (sub d (place i ∷ [])) e) (label_some e _ s.root) turns (subst (λ (q : NodeMap). Turns goal before after base e (with_place i q e)) (sym is) step),
+      all,
     )
 
 -- at equal numbers
@@ -241,7 +257,7 @@ splices_at goal first last base c d i k l m n o e f g s = subst (λ (z : ℕ). S
 
 -- all elements before a common suffix
 pub splices_end : (goal : Data) (first last : List Operation) (base : List Text) (v w : Vec Value Global) (i k n : ℕ) → SameSuffix v.items w.items n → k + n ≡ length v.items → i + n ≡ length w.items → Splices goal first last base (array_map v) (array_map w) i k n → Turns goal first last base (array_map v) (array_map w)
-splices_end goal first last base v w i k n same e f (m, s, turns) =
+splices_end goal first last base v w i k n same e f (m, s, turns, all) =
     turns_as goal first last base (array_map v) (array_map w) (array_map v) m refl (sym (spliced_end (array_map v) (array_map w) i k n (length w.items) m s (array_is_array w) f (same_rest v w k i n same e f))) turns
 
 -- arrays, as values

@@ -7,3 +7,4 @@ pub mod MixedLemmas
 pub mod MemberLemmas
 pub mod ElementLemmas
 mod ChangeLaws
+mod StepLaws

@@ -12,7 +12,7 @@ use Rattle.serde_json.proofs.Views.{Entry, view-Object}
 use Rattle.jsonptr.specs.Text.{Text}
 use Rattle.jsonptr.specs.Node.{key, Label, an_object, NodeMap, sub, NamesStep}
 use Rattle.jsonptr.specs.Put.{put}
-use Rattle.jsonptr.specs.Json.{nodes, HasSortedKeys}
+use Rattle.jsonptr.specs.Json.{nodes}
 use Rattle.jsonptr_tree.proofs.JsonLemmas.{content_of, content_one, object_is, ascends_part}
 use Rattle.jsonptr_tree.proofs.LevelLemmas.{content_at-Object}
 use Rattle.jsonptr_document.proofs.JsonLevel.{object_at}
@@ -22,7 +22,7 @@ use Rattle.jsonptr_patch.proofs.TestingLemmas.{found_under, object_label}
 use Rattle.jsonptr_diff.specs.Diff.{AreOfOneKind}
 use Rattle.jsonptr_diff.specs.PrivateSame.{IsSame, SameMember, SameMembers}
 use Rattle.jsonptr_diff.specs.PrivateDiff.{AppendsRemove, AppendsAdd, AppendsChanges, IsLike, Turns, object_map, mixed}
-use Rattle.jsonptr_diff.proofs.TurningLemmas.{turns_nowhere, turns_further, turns_as, turns_part, turns_below, turns_remove_member, turns_add_member}
+use Rattle.jsonptr_diff.proofs.TurningLemmas.{turns_nowhere, turns_further, turns_as, turns_below, turns_remove_member, turns_add_member}
 use Rattle.jsonptr_diff.proofs.ChangeLemmas.{changes_under, changes_remove, changes_add}
 use Rattle.jsonptr_diff.proofs.MixedLemmas.{without-put, mixed_none, mixed_push, mixed_left, mixed_all, mixed_skip, member_map, no_member_map, entry_found, entry_before}
 
@@ -58,8 +58,9 @@ member_turns m n first before after base done e more k w name is ordered found t
     let mid = mixed done (object_map m) (object_map n) in
     let here : nodes (view e.1) ≡ sub mid (key l ∷ []) = sym (member_map m l e.1 (entry_found m done e more is ordered)) ∙ sym (mixed_left done l (object_map m) (object_map n) (entry_before m done e more is ordered)) in
     let root : mid [] ≡ Some an_object = object_label m in
-    let part : Turns goal before after (base ++ l ∷ []) (nodes (view e.1)) (nodes (view w)) = turns_part goal (view w) before after (base ++ l ∷ []) (nodes (view e.1)) (nodes (view w)) (member_like n l w found) (subst (λ (t : Text). Turns (view w) before after (base ++ t ∷ []) (nodes (view e.1)) (nodes (view w))) name child) in
-    let step = turns_below goal before after base l (key l) mid (nodes (view e.1)) (nodes (view w)) (subst (λ (a : Option Label). NamesStep a l (key l)) (sym root) refl) (subst (λ (q : NodeMap). IsSome (q [])) here refl) here part in
+    let kind : AreOfOneKind (mid []) (nodes goal []) = inl (object_label m, object_label n) in
+    let step = turns_below goal (view w) before after base l (key l) mid (nodes (view e.1)) (nodes (view w)) (member_like n l w found) (sym (member_map n l w found)) (subst (λ (a : Option Label). NamesStep a l (key l)) (sym root) refl) (subst (λ (q : NodeMap). IsSome (q [])) here refl) here kind tt
+    (subst (λ (t : Text). Turns (view w) before after (base ++ t ∷ []) (nodes (view e.1)) (nodes (view w))) name child) in
     turns_further goal first before after base (object_map m) mid (mixed (done ++ e ∷ []) (object_map m) (object_map n)) (mixed_root m done (object_map n)) turns
     (turns_as goal before after base mid (mixed (done ++ e ∷ []) (object_map m) (object_map n)) mid (put mid (key l ∷ []) (nodes (view w))) refl (mixed_push done e (object_map m) (object_map n) ∙ ap (put mid (key l ∷ [])) (member_map n l w found)) step)
 
@@ -70,19 +71,22 @@ member_removed m n first before after base done e more k name is ordered lacks t
     let goal = view (Object n) in
     let mid = mixed done (object_map m) (object_map n) in
     let here : nodes (view e.1) ≡ sub mid (key l ∷ []) = sym (member_map m l e.1 (entry_found m done e more is ordered)) ∙ sym (mixed_left done l (object_map m) (object_map n) (entry_before m done e more is ordered)) in
-    let step = turns_remove_member goal before after base l mid (object_label m) (subst (λ (q : NodeMap). IsSome (q [])) here refl) (subst (λ (t : Text). AppendsRemove before after (base ++ t ∷ [])) name removed) in
+    let kind : AreOfOneKind (mid []) (nodes goal []) = inl (object_label m, object_label n) in
+    let step = turns_remove_member goal before after base l mid kind (ap (λ (q : NodeMap). q []) (no_member_map n l lacks)) (object_label m) (subst (λ (q : NodeMap). IsSome (q [])) here refl) (subst (λ (t : Text). AppendsRemove before after (base ++ t ∷ [])) name removed) in
     turns_further goal first before after base (object_map m) mid (mixed (done ++ e ∷ []) (object_map m) (object_map n)) (mixed_root m done (object_map n)) turns
     (turns_as goal before after base mid (mixed (done ++ e ∷ []) (object_map m) (object_map n)) mid _ refl (mixed_push done e (object_map m) (object_map n) ∙ ap (put mid (key l ∷ [])) (no_member_map n l lacks) ∙ sym (without-put l mid)) step)
 
 -- a member that the first lacks
-pub member_added : (m n : tested.Object) (first before after : List Operation) (base : List Text) (done : List Entry) (e : Entry) (more : List Entry) (k : Text) → k ≡ string_bytes e.0 → n.entries ≡ done ++ e ∷ more → IsStrictlySortedBy string_cmp (keys_of n.entries) → Turns (view (Object n)) first before base (mixed m.entries (object_map m) (object_map n)) (mixed done (mixed m.entries (object_map m) (object_map n)) (object_map n)) → AppendsAdd before after (base ++ k ∷ []) (view e.1) → Turns (view (Object n)) first after base (mixed m.entries (object_map m) (object_map n)) (mixed (done ++ e ∷ []) (mixed m.entries (object_map m) (object_map n)) (object_map n))
-member_added m n first before after base done e more k name is ordered turns added =
+pub member_added : (m n : tested.Object) (first before after : List Operation) (base : List Text) (done : List Entry) (e : Entry) (more : List Entry) (k : Text) → k ≡ string_bytes e.0 → n.entries ≡ done ++ e ∷ more → IsStrictlySortedBy string_cmp (keys_of n.entries) → get_by_text m (string_bytes e.0) ≡ None → Turns (view (Object n)) first before base (mixed m.entries (object_map m) (object_map n)) (mixed done (mixed m.entries (object_map m) (object_map n)) (object_map n)) → AppendsAdd before after (base ++ k ∷ []) (view e.1) → Turns (view (Object n)) first after base (mixed m.entries (object_map m) (object_map n)) (mixed (done ++ e ∷ []) (mixed m.entries (object_map m) (object_map n)) (object_map n))
+member_added m n first before after base done e more k name is ordered none turns added =
     let l = string_bytes e.0 in
     let goal = view (Object n) in
     let c = mixed m.entries (object_map m) (object_map n) in
     let mid = mixed done c (object_map n) in
     let found = entry_found n done e more is ordered in
-    let step = turns_part goal (view e.1) before after base mid (put mid (key l ∷ []) (nodes (view e.1))) (member_like n l e.1 found) (turns_add_member before after base l mid (view e.1) (object_label m) (subst (λ (t : Text). AppendsAdd before after (base ++ t ∷ []) (view e.1)) name added)) in
+    let kind : AreOfOneKind (mid []) (nodes goal []) = inl (object_label m, object_label n) in
+    let missing = mixed_left done l c (object_map n) (entry_before n done e more is ordered) ∙ mixed_left m.entries l (object_map m) (object_map n) none ∙ no_member_map m l none in
+    let step = turns_add_member goal before after base l mid (view e.1) (member_like n l e.1 found) kind (ap (λ (q : NodeMap). q []) missing) (sym (member_map n l e.1 found)) (object_label m) (subst (λ (t : Text). AppendsAdd before after (base ++ t ∷ []) (view e.1)) name added) in
     turns_further goal first before after base c mid (mixed (done ++ e ∷ []) c (object_map n)) (mixed_root m done (object_map n)) turns
     (turns_as goal before after base mid (mixed (done ++ e ∷ []) c (object_map n)) mid (put mid (key l ∷ []) (nodes (view e.1))) refl (mixed_push done e c (object_map n) ∙ ap (put mid (key l ∷ [])) (member_map n l e.1 found)) step)
 

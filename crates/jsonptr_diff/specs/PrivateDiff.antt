@@ -19,7 +19,7 @@ use Rattle.jsonptr_patch.specs.Patching.{Patches}
 use Rattle.jsonptr_patch.specs.PrivateTesting as tested
 use Rattle.jsonptr_patch.specs.declared.operation.Operation.{Operation}
 use Rattle.jsonptr_patch.specs.declared.operation.Operation.TheVariants.{Add, Remove, Replace}
-use Rattle.jsonptr_diff.specs.Diff.{HasValueWithin, IsChange}
+use Rattle.jsonptr_diff.specs.Diff.{HasValueWithin, IsChange, LeadsInBoth, StepsTo}
 use Rattle.jsonptr_diff.specs.declared.align.Gap.{Gap}
 use Rattle.jsonptr_diff.specs.declared.trail.Trail.{Trail, Root, Member', Element'}
 
@@ -54,7 +54,8 @@ pub record AppendsAdd (before after : List Operation) (tokens : List Text) (d : 
 
 -- `Turns goal before after base c d`: the operations `before` and then some are `after`. Where `before` leads to a map
 -- in which `base` names a node with the map `c`, `after` leads to the map with `d` there instead. If the keys in
--- `goal` are sorted, so are those in the values of the further operations, and none of these values nests deeper than `goal`
+-- `goal` are sorted, so are those in the values of the further operations, and none of these values nests deeper than `goal`.
+-- If the document `t` has `goal` there, and all before it, the further operations are steps to `t`
 pub record Turns (goal : Data) (before after : List Operation) (base : List Text) (c d : NodeMap) : Type 0 where
   pub leads : (n m : NodeMap) (w : Path)
       → Patches n before m → Names m base w → c ≡ sub m w → Patches n after (put m w d)
@@ -62,6 +63,9 @@ pub record Turns (goal : Data) (before after : List Operation) (base : List Text
       → All OperationHasSortedKeys before → All OperationHasSortedKeys after
   pub shallow : (k : ℕ) → depth goal ≤ k
       → All (HasValueWithin k) before → All (HasValueWithin k) after
+  pub steps : (t n m : NodeMap) (w : Path)
+      → StepsTo t n before m → Names m base w → c ≡ sub m w → nodes goal ≡ sub t w → LeadsInBoth m t w
+      → StepsTo t n after (put m w d)
 
 -- `IsLike goal part`: `part` nests no deeper than `goal`, and its keys are sorted if those of `goal` are
 pub record IsLike (goal part : Data) : Type 0 where
@@ -140,11 +144,17 @@ pub record IsSpliced (c d : NodeMap) (i k left : ℕ) (e : NodeMap) : Type 0 whe
   pub rest : (j : ℕ) → sub e (place (i + j) ∷ []) ≡ sub c (place (k + j) ∷ [])
   pub keys : (t : Text) (p : Path) → e (key t ∷ p) ≡ None
 
+-- `IsArrayOf goal d`: `d` is the map of `goal`, which is an array
+pub record IsArrayOf (goal : Data) (d : NodeMap) : Type 0 where
+  pub is : d ≡ nodes goal
+  pub len : ℕ
+  pub root : d [] ≡ Some (an_array len)
+
 -- `Splices goal first last base c d i k left`: the operations of `last` after those of `first` turn `c` into such an
--- array
+-- array, where `d` is the array `goal`
 abbrev pub Splices : Data → List Operation → List Operation → List Text → NodeMap → NodeMap → ℕ → ℕ → ℕ → Type 0
 Splices goal first last base c d i k left =
-    (e : NodeMap) × IsSpliced c d i k left e × Turns goal first last base c e
+    (e : NodeMap) × IsSpliced c d i k left e × Turns goal first last base c e × IsArrayOf goal d
 
 -- `IsGap n m g`: the gap `g` fits into parts of lengths `n` and `m`, and is not empty
 pub record IsGap (n m : ℕ) (g : Gap) : Type 0 where

@@ -7,7 +7,7 @@ ghost use Rattle.jsonptr.specs.Json.{nodes, HasSortedKeys};
 ghost use Rattle.jsonptr_patch.specs.Order.{OperationHasSortedKeys};
 ghost use Rattle.jsonptr_patch.specs.Patching.{Patches};
 ghost use Rattle.jsonptr_patch.specs.declared.operation.Operation.{Operation as an_operation};
-ghost use Rattle.jsonptr_diff.specs.Diff.{AreOfOneKind, HasValueWithin, IsChange};
+ghost use Rattle.jsonptr_diff.specs.Diff.{AreOfOneKind, HasValueWithin, IsChange, StepsTo};
 ghost use Rattle.jsonptr_diff.specs.PrivateDiff.{tokens_of, Turns, AppendsChanges, AppendsParts, object_map, mixed, array_map, Splices};
 ghost use Rattle.jsonptr_diff.specs.PrivateSame.{AreSameFrom};
 
@@ -30,7 +30,12 @@ use std::alloc::{AllocError, Global};
 /// member that is the same in both is in no pointer; no member is added to an object that has it, and
 /// none is removed that `new` has; an object is not replaced by an object, nor an array by an array;
 /// and a pointer leads through values that are an object in both, or an array in both
-/// ([`change_law`](crate::laws::change::change_law)). Below an element of an array all this is tested.
+/// ([`change_law`](crate::laws::change::change_law)).
+///
+/// In arrays too each operation is a step from the document that those before it left to `new`: it leads
+/// through objects and arrays that are so in both, past elements that are those of `new` already; a value
+/// that it puts is the final one; and what it replaces is another value, and not of the same kind of
+/// container. That an element is not removed where an equal one comes is tested.
 ///
 /// - Members that both objects have are followed. The others are removed or added.
 /// - The common suffix of two arrays is left alone, as far as its elements have at most 256 nodes.
@@ -74,6 +79,8 @@ pub fn diff(alloc: Global, old: &Value, new: &Value) -> Result<Vec<Operation>, A
         Patches (nodes (view old.now)) patch.items (nodes (view new.now))) }
     ensures changes { IfOk result (λ patch.
         All (IsChange (nodes (view old.now)) (nodes (view new.now))) patch.items) }
+    ensures steps { IfOk result (λ patch.
+        StepsTo (nodes (view new.now)) (nodes (view old.now)) patch.items (nodes (view new.now))) }
     ensures sorted { IfOk result (λ patch.
         HasSortedKeys (view new.now) → All OperationHasSortedKeys patch.items) }
     ensures shallow { IfOk result (λ patch.
@@ -399,7 +406,9 @@ fn replace_other(
     at: &Trail<'_>,
     patch: &mut Vec<Operation>,
 ) -> Result<(), AllocError>
-    ensures turns { IfOk result (λ _. Turns (view new.now) patch.old.items patch.new.items
+    ensures turns { IfOk result (λ _.
+        (AreOfOneKind (nodes (view value.now) []) (nodes (view new.now) []) → ⊥)
+        → Turns (view new.now) patch.old.items patch.new.items
         (tokens_of at.now) (nodes (view value.now)) (nodes (view new.now))) }
     ensures changes { IfOk result (λ _.
         (AreOfOneKind (nodes (view value.now) []) (nodes (view new.now) []) → ⊥)

@@ -2,10 +2,14 @@
 ghost use Rattle.std.specs.Prelude.{◌≡◌, List, ◌∷◌, ◌++◌, IsSome};
 ghost use Rattle.serde_json.specs.Data.{Data};
 ghost use Rattle.jsonptr.specs.Json.{nodes};
-ghost use Rattle.jsonptr.specs.Node.{NodeMap, sub};
+ghost use Rattle.serde_json.specs.declared.value.Value.{Value};
+ghost use Rattle.jsonptr.specs.Node.{NodeMap, Path, sub, Names};
 ghost use Rattle.jsonptr.specs.Text.{Text};
+ghost use Rattle.jsonptr_patch.specs.Operating.{Applies};
+ghost use Rattle.jsonptr_patch.specs.Patching.{Patches};
 ghost use Rattle.jsonptr_patch.specs.declared.operation.Operation.{Operation};
-ghost use Rattle.jsonptr_diff.specs.Diff.{AreOfOneKind, IsChange, keys, operation_path};
+ghost use Rattle.jsonptr_patch.specs.declared.operation.Operation.TheVariants.{Replace};
+ghost use Rattle.jsonptr_diff.specs.Diff.{AreOfOneKind, IsChange, IsStepTo, StepsTo, keys, operation_path};
 
 /// States where the changes of one document into another are, as [`diff`](crate::diff) returns them.
 ///
@@ -22,4 +26,18 @@ pub fn change_law()
     ensures whole { (n m : NodeMap) (o : Operation) (front rest : List Text) (x : Text)
         → IsSome (n (keys front)) → (AreOfOneKind (n (keys front)) (m (keys front)) → ⊥)
         → IsChange n m o → operation_path o ≡ front ++ x ∷ rest → ⊥ }
+{}
+
+/// States what the steps of one document to another do, as [`diff`](crate::diff) returns them.
+///
+/// - Steps are a patch: in order they make the last document of the first.
+/// - An object is not replaced where the other document has an object, nor an array where it has an array.
+/// - What was replaced is not replaced again.
+pub fn step_law()
+    ensures applied { (m n k : NodeMap) (os : List Operation) → StepsTo m n os k → Patches n os k }
+    ensures followed { (m n : NodeMap) (path : List Text) (value : Value) (w : Path)
+        → IsStepTo m n (Replace path value) → Names n path w → AreOfOneKind (n w) (m w) → ⊥ }
+    ensures once { (m n next : NodeMap) (path : List Text) (first second : Value)
+        → IsStepTo m n (Replace path first) → Applies n (Replace path first) next
+        → IsStepTo m next (Replace path second) → ⊥ }
 {}

@@ -13,15 +13,23 @@ use Rattle.jsonptr_diff.proofs.SameLemmas.{twin_same, twin_made, object_differs,
 use Rattle.jsonptr_diff.proofs.ChangeLemmas.{ok_both, appends_none, appends_join, changes_replace, object_kind, array_kind, leaf_kind, parts_under, changes_kept, none_of_same}
 use Rattle.jsonptr_diff.proofs.TurningLemmas.{turns_further, turns_replace}
 use Rattle.jsonptr_diff.proofs.MemberLemmas.{mixed_root, members_start, member_turns, member_removed, members_turn, objects_turn, member_changes, member_gone, objects_change}
-use Rattle.jsonptr_diff.proofs.ElementLemmas.{element_read, element_like, array_is_array, splices_start, splices_keep, splices_put, splices_at, splices_end, arrays_turn, elements_change, arrays_change, same_from, same_first}
+use Rattle.jsonptr_diff.proofs.ElementLemmas.{element_read, element_like, array_is_array, array_of, splices_start, splices_keep, splices_put, splices_at, splices_end, arrays_turn, elements_change, arrays_change, same_from, same_first}
 use Rattle.jsonptr_diff.proofs.difference.+diff.Goals as goal
 use Rattle.jsonptr_diff.proofs.difference.+diff.Goals.{diff_gap-then-gap, diff_gap-else-gap, diff_elements-then-loop-from-test+else-to-new_end, diff_elements-else-loop-from-test}
 
 pub diff_at-returns-in-None-clause-turns : goal.diff_at-returns-in-None-clause-turns
-diff_at-returns-in-None-clause-turns t c = ok_all c.replace.result _ _ (turns_replace c.args.patch.now.items c.replace.new.patch.items (tokens_of c.args.at.now) (nodes (view c.args.old.now)) (view c.args.new.now)) c.replace.ensures
+diff_at-returns-in-None-clause-turns t c = ok_all c.replace.result _ _
+    (turns_replace c.args.patch.now.items c.replace.new.patch.items (tokens_of c.args.at.now) (nodes (view c.args.old.now)) (view c.args.new.now)
+    (λ none. false≢true ((object_differs c.args.old.now c.args.new.now c.in-Object.members c.in-Object.is c.in-None.ensures).1 (twin_made _ _ none)))
+    (object_kind c.args.old.now c.args.new.now c.in-Object.members c.in-Object.is c.in-None.ensures))
+    c.replace.ensures
 
 pub diff_at-returns-in-None-as_array-clause-turns : goal.diff_at-returns-in-None-as_array-clause-turns
-diff_at-returns-in-None-as_array-clause-turns t c = ok_all c.replace-in-None-as_array.result _ _ (turns_replace c.args.patch.now.items c.replace-in-None-as_array.new.patch.items (tokens_of c.args.at.now) (nodes (view c.args.old.now)) (view c.args.new.now)) c.replace-in-None-as_array.ensures
+diff_at-returns-in-None-as_array-clause-turns t c = ok_all c.replace-in-None-as_array.result _ _
+    (turns_replace c.args.patch.now.items c.replace-in-None-as_array.new.patch.items (tokens_of c.args.at.now) (nodes (view c.args.old.now)) (view c.args.new.now)
+    (λ none. false≢true ((array_differs c.args.old.now c.args.new.now c.in-Array.elements c.in-Array.is c.in-None-as_array.ensures).1 (twin_made _ _ none)))
+    (array_kind c.args.old.now c.args.new.now c.in-Array.elements c.in-Array.is c.in-None-as_array.ensures))
+    c.replace-in-None-as_array.ensures
 
 pub diff_at-returns-in-Some-clause-turns : goal.diff_at-returns-in-Some-clause-turns
 diff_at-returns-in-Some-clause-turns t c = ok_all c.diff_members.result _ _
@@ -87,7 +95,7 @@ diff_elements-loop-from-init t c = record {
   old = omega arith;
   new = omega arith;
   spliced = λ left e. splices_at (view (Array c.args.new.now)) c.args.patch.now.items c.args.patch.now.items (tokens_of c.args.at.now) (array_map c.args.old.now) (array_map c.args.new.now) 0 0 (length c.args.old.now.items) 0 0 left refl refl (omega (arith, e))
-      (splices_start (view (Array c.args.new.now)) c.args.patch.now.items (tokens_of c.args.at.now) (array_map c.args.old.now) (array_map c.args.new.now) (length c.args.old.now.items) (array_is_array c.args.old.now));
+      (splices_start (view (Array c.args.new.now)) c.args.patch.now.items (tokens_of c.args.at.now) (array_map c.args.old.now) (array_map c.args.new.now) (length c.args.old.now.items) (array_is_array c.args.old.now) (array_of c.args.new.now));
   parts = appends_none (IsPartBelow (tokens_of c.args.at.now)) c.args.patch.now.items;
   kept = λ same. (refl, refl);
 }
@@ -189,7 +197,7 @@ follow_elements-loop-done-preserved t c = record {
       let before = c.loop-done.invariant.splices first left (suc togo) all (omega (arith, e)) s in
       let here = splices_at whole first c.loop-done.patch.items base old new to from (suc togo + left) to from (suc (togo + left)) refl refl (omega arith) before in
       splices_at whole first c.diff_at.new.patch.items base old new (suc to) (suc from) (togo + left) (c.args.pairs.to + (c.loop-done.done + 1)) (c.args.pairs.from + (c.loop-done.done + 1)) (togo + left) (omega arith) (omega arith) refl
-      (splices_put whole (view c.index-in-loop-done.result.now) first c.loop-done.patch.items c.diff_at.new.patch.items base old new to from (togo + left) (length c.args.old.now.items) (nodes (view c.index.result.now)) (nodes (view c.index-in-loop-done.result.now))
+      (splices_put whole (view c.index-in-loop-done.result.now) first c.loop-done.patch.items c.diff_at.new.patch.items base old new to from (togo + left) (length c.args.old.now.items) (nodes (view c.index.result.now))
       (element_like c.args.pairs.new.now to c.index-in-loop-done.result.now within c.index-in-loop-done.ensures) (array_is_array c.args.old.now) inside
       (element_read c.args.old.now from c.index.result.now inside c.index.ensures) (element_read c.args.pairs.new.now to c.index-in-loop-done.result.now within c.index-in-loop-done.ensures)
       here c.in_ok-diff_at.ensures.turns);
@@ -299,3 +307,6 @@ diff_gap-returns-clause-kept t c =
 
 pub diff_at-returns-in_default-clause-changes : goal.diff_at-returns-in_default-clause-changes
 diff_at-returns-in_default-clause-changes t c = ok_all c.replace_other.result _ _ (λ h. h (leaf_kind c.args.old.now (nodes (view c.args.new.now) []) c.in_default.not-Object c.in_default.not-Array)) c.replace_other.ensures.changes
+
+pub diff_at-returns-in_default-clause-turns : goal.diff_at-returns-in_default-clause-turns
+diff_at-returns-in_default-clause-turns t c = ok_all c.replace_other.result _ _ (λ h. h (leaf_kind c.args.old.now (nodes (view c.args.new.now) []) c.in_default.not-Object c.in_default.not-Array)) c.replace_other.ensures.turns

@@ -3,7 +3,7 @@ use Rattle.serde_json.specs.View.{view}
 use Rattle.jsonptr.specs.Json.{nodes}
 use Rattle.jsonptr_diff.proofs.SameLemmas.{twin_made}
 use Rattle.jsonptr_diff.proofs.ChangeLemmas.{changes_root}
-use Rattle.jsonptr_diff.proofs.TurningLemmas.{turns_patches}
+use Rattle.jsonptr_diff.proofs.TurningLemmas.{turns_patches, turns_steps}
 use Rattle.jsonptr_diff.proofs.difference.diff.Goals as goal
 
 pub returns-clause-applied : goal.returns-clause-applied
@@ -17,3 +17,6 @@ returns-in_err-diff_at-clause-no_memory c = λ none. absurd (true≢false (sym (
 
 pub returns-clause-empty : goal.returns-clause-empty
 returns-clause-empty c = λ none. absurd (true≢false (sym (c.is_same.ensures.1 (twin_made _ _ none)) ∙ c.if-is_same.false))
+
+pub returns-clause-steps : goal.returns-clause-steps
+returns-clause-steps c = turns_steps (view c.args.new.now) _ c.diff_at.new.patch.items (nodes (view c.args.old.now)) (nodes (view c.args.new.now)) c.new-patch.ensures.items refl c.in_ok-diff_at.ensures.turns

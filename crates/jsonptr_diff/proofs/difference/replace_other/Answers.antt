@@ -8,7 +8,7 @@ use Rattle.jsonptr_diff.proofs.TurningLemmas.{turns_nowhere, turns_replace}
 use Rattle.jsonptr_diff.proofs.difference.replace_other.Goals as goal
 
 pub returns-then-is_same-clause-turns : goal.returns-then-is_same-clause-turns
-returns-then-is_same-clause-turns c = turns_nowhere (view c.args.new.now) c.args.patch.now.items (tokens_of c.args.at.now) (nodes (view c.args.value.now)) (nodes (view c.args.new.now)) (twin_same _ _ (c.is_same.ensures.0 c.if-is_same.true))
+returns-then-is_same-clause-turns c = λ other. turns_nowhere (view c.args.new.now) c.args.patch.now.items (tokens_of c.args.at.now) (nodes (view c.args.value.now)) (nodes (view c.args.new.now)) (twin_same _ _ (c.is_same.ensures.0 c.if-is_same.true))
 
 pub returns-then-is_same-clause-changes : goal.returns-then-is_same-clause-changes
 returns-then-is_same-clause-changes c = λ other. appends_none _ _
@@ -19,4 +19,6 @@ returns-clause-changes c = ok_all c.replace.result _ _
     c.replace.ensures
 
 pub returns-clause-turns : goal.returns-clause-turns
-returns-clause-turns c = ok_all c.replace.result _ _ (turns_replace c.args.patch.now.items c.replace.new.patch.items (tokens_of c.args.at.now) (nodes (view c.args.value.now)) (view c.args.new.now)) c.replace.ensures
+returns-clause-turns c = ok_all c.replace.result _ _
+    (λ replaced other. turns_replace c.args.patch.now.items c.replace.new.patch.items (tokens_of c.args.at.now) (nodes (view c.args.value.now)) (view c.args.new.now) (not_same _ _ _ c.is_same.ensures c.if-is_same.false) other replaced)
+    c.replace.ensures

@@ -25,7 +25,7 @@ loop-key-preserved-in-Continue-1 c =
     record {
       done = done ++ e ∷ [];
       rest = all ∙ sym (append_assoc done (e ∷ []) left);
-      turns = member_added c.args.old.now c.args.new.now c.args.patch.now.items c.loop-key.patch.items c.add.new.patch.items (tokens_of c.args.at.now) done e left c.as_str-then-not-contains_key.result.now c.as_str-then-not-contains_key.ensures.value all c.iter-key-items.ensures.ordered c.loop-key.invariant.turns c.in_ok-add.ensures;
+      turns = member_added c.args.old.now c.args.new.now c.args.patch.now.items c.loop-key.patch.items c.add.new.patch.items (tokens_of c.args.at.now) done e left c.as_str-then-not-contains_key.result.now c.as_str-then-not-contains_key.ensures.value all c.iter-key-items.ensures.ordered (key_missing c.args.old.now _ _ _ c.as_str.ensures.value c.contains_key.ensures c.if-not-contains_key.true) c.loop-key.invariant.turns c.in_ok-add.ensures;
       changes = appends_join (IsChangeBelow (tokens_of c.args.at.now) (object_map c.args.old.now) (object_map c.args.new.now)) c.args.patch.now.items c.loop-key.patch.items c.add.new.patch.items c.loop-key.invariant.changes
           (member_come c.args.old.now c.args.new.now c.loop-key.patch.items c.add.new.patch.items (tokens_of c.args.at.now) done e left c.as_str-then-not-contains_key.result.now c.as_str-then-not-contains_key.ensures.value all c.iter-key-items.ensures.ordered (key_missing c.args.old.now _ _ _ c.as_str.ensures.value c.contains_key.ensures c.if-not-contains_key.true) c.in_ok-add.ensures);
     }
