@@ -2,7 +2,8 @@
 """Checks that the code that readers copy from the guide and the READMEs was proved or run.
 
 Each code block of the guide (`crates/jsonptr/CALLING.md`), and each example of a doc comment that is an item, must be in a
-caller, line by line. Each Rust block of a README must be in a caller, in a test or in an example of a doc comment.
+caller, line by line. Each Rust block of a README must be in a caller, in a test or in an example of a doc comment. Each
+contract that the README or PROVED shows must be in a source file.
 """
 import glob
 import re
@@ -16,6 +17,9 @@ GUIDE = f"{repository.CRATES}/jsonptr/CALLING.md"
 CALLERS = "jsonptr_conditions", "jsonptr_uses", "jsonptr_example"
 BLOCK = re.compile(r"^```(?:rust|text)\n(.*?)^```$", re.MULTILINE | re.DOTALL)
 CODE = re.compile(r"^```rust\n(.*?)^```$", re.MULTILINE | re.DOTALL)
+CONTRACT = re.compile(r"^```text\n((?:pub fn|ensures) .*?)^```$", re.MULTILINE | re.DOTALL)
+CLAUSES = re.compile(r"^(?=ensures )", re.MULTILINE)
+PAGES = f"{repository.TOP}/README.md", f"{repository.TOP}/docs/PROVED.md"
 
 
 def files(crates, *endings):
@@ -35,7 +39,7 @@ def check(blocks, sources):
     for block in blocks:
         wanted = lines(block)
         if not any(wanted == found[at : at + len(wanted)] for found in sources for at in range(len(found))):
-            sys.exit(f"code_blocks: no caller and no test has this code:\n{block}")
+            sys.exit(f"code_blocks: no caller, no test and no source has this code:\n{block}")
     return len(blocks)
 
 
@@ -48,7 +52,11 @@ def main():
     readmes = [f"{repository.TOP}/README.md", *sorted(glob.glob(f"{repository.CRATES}/*/README.md"))]
     guide = check(BLOCK.findall(repository.read(GUIDE)) + items, callers)
     shown = check([block for f in readmes for block in CODE.findall(repository.read(f))], callers + tests)
+    sources = [lines(repository.read(f)) for f in files("*", "rt")]
+    shown_contracts = [block for f in PAGES for block in CONTRACT.findall(repository.read(f))]
+    contracts = check([part for block in shown_contracts for part in CLAUSES.split(block) if part], sources)
     print(f"code_blocks: {guide + shown} code blocks of the guide and the READMEs are in a caller or a test")
+    print(f"code_blocks: {contracts} contracts of the README and PROVED are in a source")
 
 
 if __name__ == "__main__":
