@@ -53,13 +53,14 @@ fn marked(alloc: Global, text: &str) -> Result<String, ReadError> {
     let mut scratch = Scratch::new(alloc);
     let mut reader = Reader::new(text, &mut scratch)?;
     let mut out = Writer::new(Vec::new(alloc));
-    while let Some(token) = reader.next() {
-        match token {
-            Token::Bad => return Err(ReadError::NotJson),
-            Token::Number(number) if !is_kept(number) => {
+    for _ in 0..u64::MAX {
+        match reader.next() {
+            None => break,
+            Some(Token::Bad) => return Err(ReadError::NotJson),
+            Some(Token::Number(number)) if !is_kept(number) => {
                 out.string(decimal(alloc, number)?.as_str())?;
             }
-            token => out.token(token)?,
+            Some(token) => out.token(token)?,
         }
     }
     match String::from_utf8(out.into_inner()) {
