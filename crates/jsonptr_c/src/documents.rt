@@ -1,5 +1,6 @@
 //! Documents.
-ghost use Rattle.std.specs.Prelude.{◌≡◌, ◌≢◌, ◌≤◌, ◌⊎◌, [], IsFalse, IsTrue, Some, take, length as list_length};
+ghost use Rattle.std.specs.Prelude.{◌≡◌, ◌≢◌, ◌≤◌, ◌⊎◌, [], IsFalse, IsTrue, IsUtf8, Some, take, length as list_length};
+ghost use Rattle.serde_json.specs.Data.{Data};
 ghost use Rattle.serde_json.specs.Read.{read as read_text};
 ghost use Rattle.serde_json.specs.View.{view};
 ghost use Rattle.serde_json.specs.declared.value.Value.{Value};
@@ -49,6 +50,7 @@ pub extern "C" fn jsonptrcore_document_parse(
     ensures no_error { result ≡ 0 → error.new ≡ no_error }
     ensures read { result ≡ 0 → ReadsInto text.now document.new }
     ensures bounded { result ≡ 0 → HoldsWith document.new (λ v. IsBounded (view v)) }
+    ensures utf8 { result ≡ 0 → IsUtf8 text.now }
     ensures refused { result ≢ 0 → (e : CallError) × Reports e [] result error.new
         × IsNotParsed text.now e }
     ensures unchanged { result ≢ 0 → document.new ≡ document.old }
@@ -72,6 +74,7 @@ pub extern "C" fn jsonptrcore_document_parse_with(
     ensures read { result ≡ 0 → ReadsInto text.now document.new }
     ensures digits { result ≡ 0 → IsTrue is_exact → KeepsDigits text.now }
     ensures bounded { result ≡ 0 → HoldsWith document.new (λ v. IsBounded (view v)) }
+    ensures utf8 { result ≡ 0 → IsUtf8 text.now }
     ensures refused { result ≢ 0 → (e : CallError) × Reports e [] result error.new
         × IsNotParsedBy is_exact text.now e }
     ensures unchanged { result ≢ 0 → document.new ≡ document.old }
@@ -111,6 +114,7 @@ pub extern "C" fn jsonptrcore_document_get(
     ensures printed { result ≡ 0 → HoldsWith document.old
         (λ v. FindsTextOf (format_of is_pretty) (view v) pointer.now (take length.new out.new)) }
     ensures fits { result ≡ 0 → length.new ≤ list_length out.new }
+    ensures utf8 { result ≡ 0 → IsUtf8 pointer.now }
     ensures refused { result ≢ 0 → (e : CallError) × Reports e pointer.now result error.new
         × FailsOnHandle document.old
         (λ v. IsNotPrinted (format_of is_pretty) (view v) pointer.now (list_length out.old) e) e }
@@ -141,6 +145,7 @@ pub extern "C" fn jsonptrcore_document_string(
     ensures string { result ≡ 0 → HoldsWith document.old
         (λ v. FindsString (view v) pointer.now (take length.new out.new)) }
     ensures fits { result ≡ 0 → length.new ≤ list_length out.new }
+    ensures utf8 { result ≡ 0 → IsUtf8 pointer.now }
     ensures refused { result ≢ 0 → (e : CallError) × Reports e pointer.now result error.new
         × FailsOnHandle document.old
         (λ v. IsNotRead (view v) pointer.now (list_length out.old) e) e }
@@ -169,6 +174,7 @@ pub extern "C" fn jsonptrcore_document_node(
     ensures no_error { result ≡ 0 → error.new ≡ no_error }
     ensures described { result ≡ 0 → HoldsWith document.old
         (λ v. FindsNode (view v) pointer.now node.new) }
+    ensures utf8 { result ≡ 0 → IsUtf8 pointer.now }
     ensures refused { result ≢ 0 → (e : CallError) × Reports e pointer.now result error.new
         × FailsOnHandle document.old (λ v. Unfound (view v) pointer.now e) e }
     ensures node_unchanged { result ≢ 0 → node.new ≡ node.old }
@@ -197,6 +203,8 @@ pub extern "C" fn jsonptrcore_document_assign(
         × Changes document.old (λ d n. AssignsAtPointer d pointer.now (view v) n) document.new }
     ensures bounded { result ≡ 0
         → Changes document.old (λ d n. IsBounded d → IsBounded n) document.new }
+    ensures pointer_utf8 { result ≡ 0 → IsUtf8 pointer.now }
+    ensures text_utf8 { result ≡ 0 → IsUtf8 text.now }
     ensures refused { result ≢ 0 → (e : CallError) × Reports e pointer.now result error.new
         × IsTextNotAssigned text.now document.old pointer.now e }
     ensures unchanged { result ≢ 0 → Keeps document.old document.new }
@@ -221,6 +229,7 @@ pub extern "C" fn jsonptrcore_document_delete(
         (λ d n. DeletesAtPointer d pointer.now found.new n) document.new }
     ensures bounded { result ≡ 0
         → Changes document.old (λ d n. IsBounded d → IsBounded n) document.new }
+    ensures utf8 { result ≡ 0 → IsUtf8 pointer.now }
     ensures refused { result ≢ 0 → (e : CallError) × Reports e pointer.now result error.new
         × FailsOnHandle document.old (λ v. IsNotDeleted pointer.now e) e }
     ensures found_unchanged { result ≢ 0 → found.new ≡ found.old }
@@ -248,6 +257,7 @@ pub extern "C" fn jsonptrcore_document_patch(
         → Changes document.old (λ d n. AppliesText text.now d n) document.new }
     ensures bounded { result ≡ 0
         → Changes document.old (λ d n. IsBounded d → IsBounded n) document.new }
+    ensures utf8 { result ≡ 0 → IsUtf8 text.now }
     ensures refused { result ≢ 0 → (e : CallError) × Reports e [] result error.new
         × (IsNotPatchText text.now e ⊎ IsNotApplied text.now document.old e) }
     ensures unchanged { result ≢ 0 → Keeps document.old document.new }
@@ -277,6 +287,7 @@ pub extern "C" fn jsonptrcore_document_patch_with_inverse(
     ensures bounded { result ≡ 0
         → Changes document.old (λ d n. IsBounded d → IsBounded n) document.new }
     ensures fits { result ≡ 0 → length.new ≤ list_length out.new }
+    ensures utf8 { result ≡ 0 → IsUtf8 text.now }
     ensures refused { result ≢ 0 → (e : CallError) × Reports e [] result error.new
         × (IsNotPatchText text.now e ⊎ IsNotAppliedWithInverse (format_of is_pretty) text.now
         document.old (list_length out.old) e) }
@@ -340,6 +351,8 @@ pub extern "C" fn jsonptrcore_resolve_in_text(
     ensures printed { result ≡ 0
         → FindsTextIn (format_of is_pretty) text.now pointer.now (take length.new out.new) }
     ensures fits { result ≡ 0 → length.new ≤ list_length out.new }
+    ensures pointer_utf8 { result ≡ 0 → IsUtf8 pointer.now }
+    ensures text_utf8 { result ≡ 0 → IsUtf8 text.now }
     ensures refused { result ≢ 0 → (e : CallError) × Reports e pointer.now result error.new
         × IsNotPrintedFrom (format_of is_pretty) text.now pointer.now (list_length out.old) e }
     ensures output_unchanged { result ≢ 0 → out.new ≡ out.old }
@@ -370,6 +383,8 @@ pub extern "C" fn jsonptrcore_lost_number_in_text(
         → (lost : Lost) × Loses text.now lost × PointsTo (take length.new out.new) lost }
     ensures none { result ≡ 0 → IsFalse found.new → KeepsDigits text.now × (length.new ≡ 0) }
     ensures fits { result ≡ 0 → length.new ≤ list_length out.new }
+    ensures utf8 { result ≡ 0 → IsUtf8 text.now }
+    ensures read { result ≡ 0 → (d : Data) × (read_text text.now ≡ Some d) }
     ensures refused { result ≢ 0 → (e : CallError) × Reports e [] result error.new
         × IsNotPointedTo text.now (list_length out.old) e }
     ensures output_unchanged { result ≢ 0 → out.new ≡ out.old }

@@ -1,5 +1,5 @@
 //! Where values are in JSON texts.
-ghost use Rattle.std.specs.Prelude.{◌≡◌, ◌≢◌, ◌≤◌, [], take, length as list_length};
+ghost use Rattle.std.specs.Prelude.{◌≡◌, ◌≢◌, ◌≤◌, [], IsUtf8, take, length as list_length};
 ghost use Rattle.jsonptr_c_calls.specs.ErrorNumbers.{no_error};
 ghost use Rattle.jsonptr_c_calls.specs.Locations.{IsNotLocated, IsNotPointedAt, LocatesInText, PointsAt};
 ghost use Rattle.jsonptr_c_calls.specs.Outcomes.{IsLengthOf, Reports};
@@ -23,6 +23,8 @@ pub extern "C" fn jsonptrcore_locate_in_text(
 ) -> u32
     ensures no_error { result ≡ 0 → error.new ≡ no_error }
     ensures located { result ≡ 0 → LocatesInText text.now pointer.now start.new end.new }
+    ensures pointer_utf8 { result ≡ 0 → IsUtf8 pointer.now }
+    ensures text_utf8 { result ≡ 0 → IsUtf8 text.now }
     ensures refused { result ≢ 0 → (e : CallError) × Reports e pointer.now result error.new
         × IsNotLocated text.now pointer.now e }
     ensures output_unchanged { result ≢ 0 → (start.new ≡ start.old) × (end.new ≡ end.old) }
@@ -50,6 +52,7 @@ pub extern "C" fn jsonptrcore_pointer_at_in_text(
     ensures no_error { result ≡ 0 → error.new ≡ no_error }
     ensures pointed { result ≡ 0 → PointsAt text.now offset (take length.new out.new) }
     ensures fits { result ≡ 0 → length.new ≤ list_length out.new }
+    ensures utf8 { result ≡ 0 → IsUtf8 text.now }
     ensures refused { result ≢ 0 → (e : CallError) × Reports e [] result error.new
         × IsNotPointedAt text.now offset (list_length out.old) e }
     ensures output_unchanged { result ≢ 0 → out.new ≡ out.old }

@@ -1,5 +1,5 @@
 //! JSON Pointers.
-ghost use Rattle.std.specs.Prelude.{◌≡◌, ◌≢◌, ◌≤◌, [], take, length as list_length};
+ghost use Rattle.std.specs.Prelude.{◌≡◌, ◌≢◌, ◌≤◌, [], IsUtf8, take, length as list_length};
 ghost use Rattle.jsonptr.specs.Text.{esc};
 ghost use Rattle.jsonptr_c_calls.specs.Failures.{IsNoPointer, IsNoToken, IsNotEscaped, IsNotPopped, IsNotPushed};
 ghost use Rattle.jsonptr_c_calls.specs.Outcomes.{IsLengthOf, Reports};
@@ -21,6 +21,7 @@ pub extern "C" fn jsonptrcore_pointer_count(
 ) -> u32
     ensures no_error { result ≡ 0 → error.new ≡ no_error }
     ensures count { result ≡ 0 → HasCount pointer.now count.new }
+    ensures utf8 { result ≡ 0 → IsUtf8 pointer.now }
     ensures refused { result ≢ 0 → (e : CallError) × Reports e pointer.now result error.new
         × IsNoPointer pointer.now e }
     ensures count_unchanged { result ≢ 0 → count.new ≡ count.old }
@@ -47,6 +48,7 @@ pub extern "C" fn jsonptrcore_pointer_token(
     ensures no_error { result ≡ 0 → error.new ≡ no_error }
     ensures token { result ≡ 0 → HasToken pointer.now position (take length.new out.new) }
     ensures fits { result ≡ 0 → length.new ≤ list_length out.new }
+    ensures utf8 { result ≡ 0 → IsUtf8 pointer.now }
     ensures refused { result ≢ 0 → (e : CallError) × Reports e pointer.now result error.new
         × IsNoToken pointer.now position (list_length out.old) e }
     ensures output_unchanged { result ≢ 0 → out.new ≡ out.old }
@@ -73,6 +75,7 @@ pub extern "C" fn jsonptrcore_pointer_escape(
     ensures no_error { result ≡ 0 → error.new ≡ no_error }
     ensures escaped { result ≡ 0 → take length.new out.new ≡ esc token.now }
     ensures fits { result ≡ 0 → length.new ≤ list_length out.new }
+    ensures utf8 { result ≡ 0 → IsUtf8 token.now }
     ensures refused { result ≢ 0 → (e : CallError) × Reports e [] result error.new
         × IsNotEscaped token.now (list_length out.old) e }
     ensures output_unchanged { result ≢ 0 → out.new ≡ out.old }
@@ -101,6 +104,9 @@ pub extern "C" fn jsonptrcore_pointer_push(
     ensures pushed { result ≡ 0
         → Extends (take length.old buffer.old) token.now (take length.new buffer.new) }
     ensures fits { result ≡ 0 → length.new ≤ list_length buffer.new }
+    ensures within { result ≡ 0 → length.old ≤ list_length buffer.old }
+    ensures pointer_utf8 { result ≡ 0 → IsUtf8 (take length.old buffer.old) }
+    ensures token_utf8 { result ≡ 0 → IsUtf8 token.now }
     ensures refused { result ≢ 0 → (e : CallError)
         × Reports e (take length.old buffer.old) result error.new
         × IsNotPushed length.old buffer.old token.now e }
@@ -128,6 +134,7 @@ pub extern "C" fn jsonptrcore_pointer_pop(
 ) -> u32
     ensures no_error { result ≡ 0 → error.new ≡ no_error }
     ensures popped { result ≡ 0 → Shortens pointer.now length.new }
+    ensures utf8 { result ≡ 0 → IsUtf8 pointer.now }
     ensures refused { result ≢ 0 → (e : CallError) × Reports e pointer.now result error.new
         × IsNotPopped pointer.now e }
     ensures length_unchanged { result ≢ 0 → length.new ≡ length.old }

@@ -1,5 +1,5 @@
 //! Documents in a handle.
-ghost use Rattle.std.specs.Prelude.{◌≡◌, ◌≤◌, ◌⊎◌, IfErr, IfOk, OnErr, OnOk, Some, length, take};
+ghost use Rattle.std.specs.Prelude.{◌≡◌, ◌≤◌, ◌⊎◌, IfErr, IfOk, IsUtf8, OnErr, OnOk, Some, length, take};
 ghost use Rattle.serde_json.specs.Read.{read as read_text};
 ghost use Rattle.serde_json.specs.View.{view};
 ghost use Rattle.serde_json.specs.declared.value.Value.{Value as JsonValue};
@@ -44,6 +44,7 @@ use std::alloc::{AllocError, Global};
 pub fn parse(alloc: Global, document: &mut Handle, text: &[u8]) -> Result<(), CallError>
     ensures read { IfOk result (λ _. ReadsInto text.now document.new) }
     ensures bounded { IfOk result (λ _. HoldsWith document.new (λ v. IsBounded (view v))) }
+    ensures utf8 { OnOk result (IsUtf8 text.now) }
     ensures refused { IfErr result (IsNotParsed text.now) }
     ensures unchanged { OnErr result (document.new ≡ document.old) }
 {
@@ -79,6 +80,7 @@ pub fn parse_exactly(alloc: Global, document: &mut Handle, text: &[u8]) -> Resul
     ensures read { IfOk result (λ _. ReadsInto text.now document.new) }
     ensures digits { OnOk result (KeepsDigits text.now) }
     ensures bounded { IfOk result (λ _. HoldsWith document.new (λ v. IsBounded (view v))) }
+    ensures utf8 { OnOk result (IsUtf8 text.now) }
     ensures refused { IfErr result (IsNotParsedExactly text.now) }
     ensures unchanged { OnErr result (document.new ≡ document.old) }
 {
@@ -125,6 +127,7 @@ pub fn get(
     ensures printed { IfOk result (λ n.
         HoldsWith document.old (λ v. FindsTextOf format (view v) pointer.now (take n out.new))) }
     ensures fits { IfOk result (λ n. n ≤ length out.new) }
+    ensures utf8 { OnOk result (IsUtf8 pointer.now) }
     ensures refused { IfErr result (λ e.
         FailsOnHandle document.old (λ v. IsNotPrinted format (view v) pointer.now (length out.old) e) e) }
     ensures output_unchanged { OnErr result (out.new ≡ out.old) }
@@ -164,6 +167,7 @@ pub fn string(
     ensures string { IfOk result (λ n.
         HoldsWith document.old (λ v. FindsString (view v) pointer.now (take n out.new))) }
     ensures fits { IfOk result (λ n. n ≤ length out.new) }
+    ensures utf8 { OnOk result (IsUtf8 pointer.now) }
     ensures refused { IfErr result (λ e.
         FailsOnHandle document.old (λ v. IsNotRead (view v) pointer.now (length out.old) e) e) }
     ensures output_unchanged { OnErr result (out.new ≡ out.old) }
@@ -196,6 +200,7 @@ pub fn string(
 pub fn node(alloc: Global, document: &mut Handle, pointer: &[u8]) -> Result<NodeInfo, CallError>
     ensures described { IfOk result (λ node.
         HoldsWith document.old (λ v. FindsNode (view v) pointer.now node)) }
+    ensures utf8 { OnOk result (IsUtf8 pointer.now) }
     ensures refused { IfErr result (λ e.
         FailsOnHandle document.old (λ v. Unfound (view v) pointer.now e) e) }
     ensures unchanged { Keeps document.old document.new }
@@ -240,6 +245,8 @@ pub fn assign(
         × Changes document.old (λ d n. AssignsAtPointer d pointer.now (view v) n) document.new) }
     ensures bounded { IfOk result (λ _.
         Changes document.old (λ d n. IsBounded d → IsBounded n) document.new) }
+    ensures pointer_utf8 { OnOk result (IsUtf8 pointer.now) }
+    ensures text_utf8 { OnOk result (IsUtf8 text.now) }
     ensures refused { IfErr result (IsTextNotAssigned text.now document.old pointer.now) }
     ensures unchanged { OnErr result (Keeps document.old document.new) }
 {
@@ -273,6 +280,7 @@ pub fn delete(alloc: Global, document: &mut Handle, pointer: &[u8]) -> Result<bo
         Changes document.old (λ d n. DeletesAtPointer d pointer.now found n) document.new) }
     ensures bounded { IfOk result (λ _.
         Changes document.old (λ d n. IsBounded d → IsBounded n) document.new) }
+    ensures utf8 { OnOk result (IsUtf8 pointer.now) }
     ensures refused { IfErr result (λ e.
         FailsOnHandle document.old (λ v. IsNotDeleted pointer.now e) e) }
     ensures unchanged { OnErr result (Keeps document.old document.new) }
@@ -311,6 +319,7 @@ pub fn patch(alloc: Global, document: &mut Handle, text: &[u8]) -> Result<(), Ca
         Changes document.old (λ d n. AppliesText text.now d n) document.new) }
     ensures bounded { IfOk result (λ _.
         Changes document.old (λ d n. IsBounded d → IsBounded n) document.new) }
+    ensures utf8 { OnOk result (IsUtf8 text.now) }
     ensures refused { IfErr result (λ e.
         IsNotPatchText text.now e ⊎ IsNotApplied text.now document.old e) }
     ensures unchanged { OnErr result (Keeps document.old document.new) }
@@ -362,6 +371,7 @@ pub fn patch_with_inverse(
     ensures bounded { IfOk result (λ _.
         Changes document.old (λ d n. IsBounded d → IsBounded n) document.new) }
     ensures fits { IfOk result (λ n. n ≤ length out.new) }
+    ensures utf8 { OnOk result (IsUtf8 text.now) }
     ensures refused { IfErr result (λ e. IsNotPatchText text.now e
         ⊎ IsNotAppliedWithInverse format text.now document.old (length out.old) e) }
     ensures output_unchanged { OnErr result (out.new ≡ out.old) }

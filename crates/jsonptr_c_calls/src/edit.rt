@@ -1,5 +1,5 @@
 //! Changes of a document.
-ghost use Rattle.std.specs.Prelude.{◌≡◌, IfErr, IfOk, OnErr};
+ghost use Rattle.std.specs.Prelude.{◌≡◌, IfErr, IfOk, IsUtf8, OnErr, OnOk};
 ghost use Rattle.serde_json.specs.View.{view};
 ghost use Rattle.jsonptr.specs.Json.{HasSortedKeys};
 ghost use Rattle.jsonptr_c_calls.specs.Editing.{AssignsAtPointer, DeletesAtPointer, IsNotAssigned, IsNotDeleted};
@@ -32,6 +32,7 @@ pub fn assign(
         AssignsAtPointer (view document.old) pointer.now (view value) (view document.new)) }
     ensures sorted { IfOk result (λ _. HasSortedKeys (view value)
         → HasSortedKeys (view document.old) → HasSortedKeys (view document.new)) }
+    ensures utf8 { OnOk result (IsUtf8 pointer.now) }
     ensures refused { IfErr result (IsNotAssigned (view document.old) pointer.now) }
     ensures unchanged { OnErr result (view document.new ≡ view document.old) }
 {
@@ -59,6 +60,7 @@ pub fn delete(alloc: Global, document: &mut Value, pointer: &[u8]) -> Result<boo
         DeletesAtPointer (view document.old) pointer.now found (view document.new)) }
     ensures sorted { IfOk result (λ _.
         HasSortedKeys (view document.old) → HasSortedKeys (view document.new)) }
+    ensures utf8 { OnOk result (IsUtf8 pointer.now) }
     ensures refused { IfErr result (IsNotDeleted pointer.now) }
     ensures unchanged { OnErr result (view document.new ≡ view document.old) }
 {

@@ -1,5 +1,5 @@
 //! Where values are in a JSON text that is not read into a document.
-ghost use Rattle.std.specs.Prelude.{◌≡◌, ◌≤◌, IfErr, IfOk, List, OnErr, length, take};
+ghost use Rattle.std.specs.Prelude.{◌≡◌, ◌≤◌, IfErr, IfOk, IsUtf8, List, OnErr, OnOk, length, take};
 ghost use Rattle.jsonptr.specs.Text.{Text};
 ghost use Rattle.jsonptr_edit_in_text.specs.Locating.{IsLocateError};
 ghost use Rattle.jsonptr_c_calls.specs.Locations.{IsNotLocated, IsNotPointedAt, LacksLocation, LocatesInText, PointsAt};
@@ -40,6 +40,8 @@ pub struct TextSpan {
 /// ```
 pub fn locate(alloc: Global, text: &[u8], pointer: &[u8]) -> Result<TextSpan, CallError>
     ensures located { IfOk result (λ s. LocatesInText text.now pointer.now s.start s.end) }
+    ensures pointer_utf8 { OnOk result (IsUtf8 pointer.now) }
+    ensures text_utf8 { OnOk result (IsUtf8 text.now) }
     ensures refused { IfErr result (IsNotLocated text.now pointer.now) }
 {
     let pointer = parse(pointer)?;
@@ -84,6 +86,7 @@ pub fn pointer_at(
 ) -> Result<usize, CallError>
     ensures pointed { IfOk result (λ n. PointsAt text.now offset (take n out.new)) }
     ensures fits { IfOk result (λ n. n ≤ length out.new) }
+    ensures utf8 { OnOk result (IsUtf8 text.now) }
     ensures refused { IfErr result (IsNotPointedAt text.now offset (length out.old)) }
     ensures output_unchanged { OnErr result (out.new ≡ out.old) }
 {

@@ -1,5 +1,5 @@
 //! What a value is: its type, its length, and the number in it.
-ghost use Rattle.std.specs.Prelude.{◌≡◌, IfErr, IfOk};
+ghost use Rattle.std.specs.Prelude.{◌≡◌, IfErr, IfOk, IsUtf8, OnOk};
 ghost use Rattle.serde_json.specs.View.{view};
 ghost use Rattle.jsonptr_value.specs.NodeTypes.{length_of, type_of};
 ghost use Rattle.jsonptr_c_calls.specs.Failures.{Unfound};
@@ -83,6 +83,7 @@ impl NodeInfo {
     /// Those of [`find`].
     pub fn at(alloc: Global, document: &Value, pointer: &[u8]) -> Result<NodeInfo, CallError>
         ensures described { IfOk result (FindsNode (view document.now) pointer.now) }
+        ensures utf8 { OnOk result (IsUtf8 pointer.now) }
         ensures refused { IfErr result (Unfound (view document.now) pointer.now) }
     {
         Ok(NodeInfo::of(find(alloc, document, pointer)?))

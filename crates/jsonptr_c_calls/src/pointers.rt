@@ -69,6 +69,7 @@ pub fn parse(pointer: &[u8]) -> Result<Pointer<'_>, CallError>
 /// ```
 pub fn count(pointer: &[u8]) -> Result<usize, CallError>
     ensures count { IfOk result (λ n. HasCount pointer.now n) }
+    ensures utf8 { OnOk result (IsUtf8 pointer.now) }
     ensures refused { IfErr result (IsNoPointer pointer.now) }
 {
     Ok(parse(pointer)?.count())
@@ -99,6 +100,7 @@ pub fn token(
 ) -> Result<usize, CallError>
     ensures token { IfOk result (λ n. HasToken pointer.now position (take n out.new)) }
     ensures fits { IfOk result (λ n. n ≤ list_length out.new) }
+    ensures utf8 { OnOk result (IsUtf8 pointer.now) }
     ensures refused { IfErr result (IsNoToken pointer.now position (list_length out.old)) }
     ensures output_unchanged { OnErr result (out.new ≡ out.old) }
 {
@@ -127,6 +129,7 @@ pub fn token(
 pub fn escape(alloc: Global, token: &[u8], out: &mut [u8]) -> Result<usize, CallError>
     ensures escaped { IfOk result (λ n. take n out.new ≡ esc token.now) }
     ensures fits { IfOk result (λ n. n ≤ list_length out.new) }
+    ensures utf8 { OnOk result (IsUtf8 token.now) }
     ensures refused { IfErr result (IsNotEscaped token.now (list_length out.old)) }
     ensures output_unchanged { OnErr result (out.new ≡ out.old) }
 {
@@ -161,6 +164,9 @@ pub fn push(
     ensures pushed { IfOk result (λ n.
         Extends (take length buffer.old) token.now (take n buffer.new)) }
     ensures fits { IfOk result (λ n. n ≤ list_length buffer.new) }
+    ensures within { OnOk result (length ≤ list_length buffer.old) }
+    ensures pointer_utf8 { OnOk result (IsUtf8 (take length buffer.old)) }
+    ensures token_utf8 { OnOk result (IsUtf8 token.now) }
     ensures refused { IfErr result
         (IsNotPushed length buffer.old token.now) }
     ensures unchanged { OnErr result (buffer.new ≡ buffer.old) }
@@ -204,6 +210,7 @@ fn extended(alloc: Global, pointer: &[u8], token: &[u8]) -> Result<PointerBuf, C
 /// ```
 pub fn pop(pointer: &[u8]) -> Result<usize, CallError>
     ensures popped { IfOk result (Shortens pointer.now) }
+    ensures utf8 { OnOk result (IsUtf8 pointer.now) }
     ensures refused { IfErr result (IsNotPopped pointer.now) }
 {
     match parse(pointer)?.parent() {

@@ -1,5 +1,7 @@
 //! Calls on a JSON text.
-ghost use Rattle.std.specs.Prelude.{◌≡◌, ◌≤◌, IfErr, IfOk, IfSome, IsUtf8, MatchOption, OnErr, OnOk, length, take};
+ghost use Rattle.std.specs.Prelude.{◌≡◌, ◌≤◌, IfErr, IfOk, IfSome, IsUtf8, MatchOption, OnErr, OnOk, Some, length, take};
+ghost use Rattle.serde_json.specs.Data.{Data};
+ghost use Rattle.serde_json.specs.Read.{read as read_text};
 ghost use Rattle.jsonptr_numbers.specs.Digits.{KeepsDigits};
 ghost use Rattle.jsonptr_numbers.specs.Lost.{Loses};
 ghost use Rattle.jsonptr_numbers.specs.declared.lost.Lost.{Lost as SpecLost};
@@ -74,6 +76,8 @@ pub fn resolve(
 ) -> Result<usize, CallError>
     ensures printed { IfOk result (λ n. FindsTextIn format text.now pointer.now (take n out.new)) }
     ensures fits { IfOk result (λ n. n ≤ length out.new) }
+    ensures pointer_utf8 { OnOk result (IsUtf8 pointer.now) }
+    ensures text_utf8 { OnOk result (IsUtf8 text.now) }
     ensures refused { IfErr result (IsNotPrintedFrom format text.now pointer.now (length out.old)) }
     ensures output_unchanged { OnErr result (out.new ≡ out.old) }
 {
@@ -108,6 +112,7 @@ pub fn lost_number(alloc: Global, text: &[u8], out: &mut [u8]) -> Result<Option<
     ensures found { IfOk result (λ o. MatchOption o (KeepsDigits text.now)
         (λ n. (lost : SpecLost) × Loses text.now lost × PointsTo (take n out.new) lost)) }
     ensures fits { IfOk result (λ o. IfSome o (λ n. n ≤ length out.new)) }
+    ensures read { OnOk result ((d : Data) × (read_text text.now ≡ Some d)) }
     ensures utf8 { OnOk result (IsUtf8 text.now) }
     ensures refused { IfErr result (IsNotPointedTo text.now (length out.old)) }
     ensures output_unchanged { OnErr result (out.new ≡ out.old) }

@@ -62,6 +62,7 @@ pub fn get(
     ensures printed { IfOk result (λ n.
         FindsTextOf format (view document.now) pointer.now (take n out.new)) }
     ensures fits { IfOk result (λ n. n ≤ length out.new) }
+    ensures utf8 { OnOk result (IsUtf8 pointer.now) }
     ensures refused { IfErr result
         (IsNotPrinted format (view document.now) pointer.now (length out.old)) }
     ensures output_unchanged { OnErr result (out.new ≡ out.old) }
@@ -89,6 +90,7 @@ pub fn string(
     ensures string { IfOk result (λ n.
         FindsString (view document.now) pointer.now (take n out.new)) }
     ensures fits { IfOk result (λ n. n ≤ length out.new) }
+    ensures utf8 { OnOk result (IsUtf8 pointer.now) }
     ensures refused { IfErr result (IsNotRead (view document.now) pointer.now (length out.old)) }
     ensures output_unchanged { OnErr result (out.new ≡ out.old) }
 {
