@@ -27,7 +27,7 @@ use Rattle.jsonptr_patch.specs.Patching.{PatchesBy, RefusesPatchBy}
 use Rattle.jsonptr_patch.specs.declared.operation.Operation.{Operation}
 use Rattle.jsonptr_patch.specs.declared.operation.PatchError.{PatchError}
 use Rattle.jsonptr_patch.specs.declared.comparison.Comparison.TheVariants.{Numeric}
-use Rattle.jsonptr_c_calls.specs.Patches.{IsNotAppliedList, IsNotPatched, IsNotPatchText, LacksInverse}
+use Rattle.jsonptr_c_calls.specs.Patches.{IsNotAppliedList, IsNotPatched, IsNotPatchText}
 use Rattle.jsonptr_c_calls.specs.Pointers.{ParsesTo}
 use Rattle.jsonptr_c_calls.specs.ErrorNumbers.{status_number}
 use Rattle.jsonptr_c_calls.specs.Values.{FindsAtPointer}
@@ -42,18 +42,13 @@ use Rattle.jsonptr_c_calls.proofs.SourceLemmas.{is_document}
 same : (e f x y : CallError) → e ≡ x → f ≡ y → status_number x ≡ status_number y → SameStatus e f
 same e f x y p q s = inr (inr (ap status_number p ∙ s ∙ sym (ap status_number q)))
 
-turned : (e f : CallError) → SameStatus e f → SameStatus f e
-turned e f (inl h) = inr (inl h)
-turned e f (inr (inl h)) = inl h
-turned e f (inr (inr h)) = inr (inr (sym h))
-
 rooms : (e f : CallError) (n m room : ℕ) → LacksRoom n room e → LacksRoom m room f → SameStatus e f
 rooms e f n m room h k = same e f (NoRoom n) (NoRoom m) h.1 k.1 refl
 
 not_utf8 : (a : Argument) (bytes : List ℕ) (e f : CallError) → IsNotUtf8 a bytes e → IsNotUtf8 a bytes f → SameStatus e f
 not_utf8 a bytes e f h k = same e f (NotUtf8 a _) (NotUtf8 a _) h.1 k.1 refl
 
-tokens_one : (bytes : List ℕ) (ts us : List Text) → ParsesTo bytes ts → ParsesTo bytes us → ts ≡ us
+pub tokens_one : (bytes : List ℕ) (ts us : List Text) → ParsesTo bytes ts → ParsesTo bytes us → ts ≡ us
 tokens_one bytes ts us h k = text_one ts us (h.1 ∙ sym k.1)
 
 pub no_pointers : (bytes : List ℕ) (e f : CallError) → IsNoPointer bytes e → IsNoPointer bytes f → SameStatus e f
@@ -80,16 +75,16 @@ not_parsed t e f (inl h) (inr (inr k)) = absurd (h.0 k.1)
 not_parsed t e f (inr (inr h)) (inl k) = absurd (k.0 h.1)
 not_parsed t e f (inr (inr h)) (inr (inr k)) = same e f (NotJson h.0) (NotJson k.0) h.3 k.3 refl
 
--- a text that is read has no error
-no_read : (t : List ℕ) (d : Data) (e f : CallError) → IsNotParsed t e → IsUtf8 t → read t ≡ Some d → SameStatus e f
-no_read t d e f (inl h) u r = absurd (h.0 u)
-no_read t d e f (inr (inl h)) u r = inl h
-no_read t d e f (inr (inr h)) u r = absurd (let no : None ≡ Some d = sym h.2 ∙ r in cc)
+-- a text that is read has no error but a failed allocation
+pub no_read : (t : List ℕ) (d : Data) (e : CallError) → IsNotParsed t e → IsUtf8 t → read t ≡ Some d → IsOutOfMemory e
+no_read t d e (inl h) u r = absurd (h.0 u)
+no_read t d e (inr (inl h)) u r = h
+no_read t d e (inr (inr h)) u r = absurd (let no : None ≡ Some d = sym h.2 ∙ r in cc)
 
 pub not_parsed_exactly : (t : List ℕ) (e f : CallError) → IsNotParsedExactly t e → IsNotParsedExactly t f → SameStatus e f
 not_parsed_exactly t e f (inl h) (inl k) = not_parsed t e f h k
-not_parsed_exactly t e f (inl h) (inr k) = no_read t k.1.0 e f h k.1.1 k.1.2
-not_parsed_exactly t e f (inr h) (inl k) = turned f e (no_read t h.1.0 f e k h.1.1 h.1.2)
+not_parsed_exactly t e f (inl h) (inr k) = inl (no_read t k.1.0 e h k.1.1 k.1.2)
+not_parsed_exactly t e f (inr h) (inl k) = inr (inl (no_read t h.1.0 f k h.1.1 h.1.2))
 not_parsed_exactly t e f (inr h) (inr k) = same e f (NotExact h.0) (NotExact k.0) h.2 k.2 refl
 
 pub pointer_lacked : (lost : Lost) (room : ℕ) (e f : CallError) → LacksPointerOfNumber lost room e → LacksPointerOfNumber lost room f → SameStatus e f
@@ -110,7 +105,7 @@ on_document d P e f one (inr h) (inr k) =
 
 module _ (not_both : (s : Text) (e : ParseError) → IsPointer s → IsParseErrorOf s e → ⊥) where
   -- a pointer has no error
-  no_pointer-parses : (bytes : List ℕ) (ts : List Text) (e : CallError) → IsNoPointer bytes e → ParsesTo bytes ts → ⊥
+  pub no_pointer-parses : (bytes : List ℕ) (ts : List Text) (e : CallError) → IsNoPointer bytes e → ParsesTo bytes ts → ⊥
   no_pointer-parses bytes ts e (inl h) p = h.0 p.0
   no_pointer-parses bytes ts e (inr h) p = not_both bytes h.0 (subst IsPointer p.1 (IsPointer-text ts)) h.2
 
@@ -140,19 +135,19 @@ module _ (not_both : (s : Text) (e : ParseError) → IsPointer s → IsParseErro
   not_extended bytes token e f (inr (inr h)) (inr (inr k)) = not_utf8 _ token e f h.2 k.2
 
   -- a pointer that can be extended
-  extended : (bytes token : List ℕ) (ts : List Text) (e f : CallError) → IsNotExtended bytes token e → ParsesTo bytes ts → IsUtf8 token → SameStatus e f
-  extended bytes token ts e f (inl h) p u = absurd (no_pointer-parses bytes ts e h p)
-  extended bytes token ts e f (inr (inl h)) p u = inl h
-  extended bytes token ts e f (inr (inr h)) p u = absurd (h.2.0 u)
+  pub extended : (bytes token : List ℕ) (ts : List Text) (e : CallError) → IsNotExtended bytes token e → ParsesTo bytes ts → IsUtf8 token → IsOutOfMemory e
+  extended bytes token ts e (inl h) p u = absurd (no_pointer-parses bytes ts e h p)
+  extended bytes token ts e (inr (inl h)) p u = h
+  extended bytes token ts e (inr (inr h)) p u = absurd (h.2.0 u)
 
   pub not_pushed : (n : ℕ) (buffer token : List ℕ) (e f : CallError) → IsNotPushed n buffer token e → IsNotPushed n buffer token f → SameStatus e f
   not_pushed n buffer token e f (inl h) (inl k) = rooms e f _ _ _ h k
   not_pushed n buffer token e f (inl h) (inr k) = absurd (omega (arith, h.0, k.0))
   not_pushed n buffer token e f (inr h) (inl k) = absurd (omega (arith, k.0, h.0))
   not_pushed n buffer token e f (inr (low, inl h)) (inr (more, inl k)) = not_extended (take n buffer) token e f h k
-  not_pushed n buffer token e f (inr (low, inl h)) (inr (more, inr k)) = extended (take n buffer) token k.0 e f h k.1 k.2
+  not_pushed n buffer token e f (inr (low, inl h)) (inr (more, inr k)) = inl (extended (take n buffer) token k.0 e h k.1 k.2)
   not_pushed n buffer token e f (inr (low, inr h)) (inr (more, inl k)) =
-      turned f e (extended (take n buffer) token h.0 f e k h.1 h.2)
+      inr (inl (extended (take n buffer) token h.0 f k h.1 h.2))
   not_pushed n buffer token e f (inr (low, inr h)) (inr (more, inr k)) = rooms e f _ _ _ h.3 k.3
 
   pub not_popped : (bytes : List ℕ) (e f : CallError) → IsNotPopped bytes e → IsNotPopped bytes f → SameStatus e f
@@ -171,17 +166,17 @@ module _ (not_both : (s : Text) (e : ParseError) → IsPointer s → IsParseErro
   unfound d bytes e f (inr (inr h)) (inr (inr k)) = same e f (Resolve h.1) (Resolve k.1) h.4 k.4 refl
 
   -- a value that is found
-  found : (d v : Data) (bytes : List ℕ) (e f : CallError) → Unfound d bytes e → IsUtf8 bytes → FindsAtPointer d bytes v → SameStatus e f
-  found d v bytes e f (inl h) u at = absurd (no_pointer-parses bytes at.0 e h (u, at.1))
-  found d v bytes e f (inr (inl h)) u at = inl h
-  found d v bytes e f (inr (inr h)) u at =
+  pub found : (d v : Data) (bytes : List ℕ) (e : CallError) → Unfound d bytes e → IsUtf8 bytes → FindsAtPointer d bytes v → IsOutOfMemory e
+  found d v bytes e (inl h) u at = absurd (no_pointer-parses bytes at.0 e h (u, at.1))
+  found d v bytes e (inr (inl h)) u at = h
+  found d v bytes e (inr (inr h)) u at =
       let there : FindsValue d h.0 v = subst (λ (ts : List Text). FindsValue d ts v) (tokens_one bytes at.0 h.0 (u, at.1) h.2) at.2 in
       absurd (Refuses-NamesNothing (nodes d) h.0 h.1 h.3 there.path there.named)
 
   pub not_printed : (format : Format) (d : Data) (bytes : List ℕ) (room : ℕ) (e f : CallError) → IsNotPrinted format d bytes room e → IsNotPrinted format d bytes room f → SameStatus e f
   not_printed format d bytes room e f (inl h) (inl k) = unfound d bytes e f h k
-  not_printed format d bytes room e f (inl h) (inr k) = found d k.0 bytes e f h k.2 k.3
-  not_printed format d bytes room e f (inr h) (inl k) = turned f e (found d h.0 bytes f e k h.2 h.3)
+  not_printed format d bytes room e f (inl h) (inr k) = inl (found d k.0 bytes e h k.2 k.3)
+  not_printed format d bytes room e f (inr h) (inl k) = inr (inl (found d h.0 bytes f k h.2 h.3))
   not_printed format d bytes room e f (inr h) (inr k) = rooms e f _ _ room h.5 k.5
 
   pub not_printed_in : (d : Handle) (format : Format) (bytes : List ℕ) (room : ℕ) (e f : CallError) → FailsOnHandle d (λ v. IsNotPrinted format (view v) bytes room e) e → FailsOnHandle d (λ v. IsNotPrinted format (view v) bytes room f) f → SameStatus e f
@@ -197,8 +192,8 @@ module _ (not_both : (s : Text) (e : ParseError) → IsPointer s → IsParseErro
 
   not_read : (d : Data) (bytes : List ℕ) (room : ℕ) (e f : CallError) → IsNotRead d bytes room e → IsNotRead d bytes room f → SameStatus e f
   not_read d bytes room e f (inl h) (inl k) = unfound d bytes e f h k
-  not_read d bytes room e f (inl h) (inr k) = found d k.0 bytes e f h k.1 k.2
-  not_read d bytes room e f (inr h) (inl k) = turned f e (found d h.0 bytes f e k h.1 h.2)
+  not_read d bytes room e f (inl h) (inr k) = inl (found d k.0 bytes e h k.1 k.2)
+  not_read d bytes room e f (inr h) (inl k) = inr (inl (found d h.0 bytes f k h.1 h.2))
   not_read d bytes room e f (inr h) (inr k) =
       let tokens : h.2.0 ≡ k.2.0 = tokens_one bytes h.2.0 k.2.0 (h.1, h.2.1) (k.1, k.2.1) in
       strings h.0 k.0 room e f (FindsValue_one d k.2.0 h.0 k.0 (subst (λ (ts : List Text). FindsValue d ts h.0) tokens h.2.2) k.2.2) h.3 k.3
@@ -227,8 +222,8 @@ module _ (not_both : (s : Text) (e : ParseError) → IsPointer s → IsParseErro
 
   pub not_assigned_in : (t : List ℕ) (d : Handle) (bytes : List ℕ) (e f : CallError) → IsTextNotAssigned t d bytes e → IsTextNotAssigned t d bytes f → SameStatus e f
   not_assigned_in t d bytes e f (inl h) (inl k) = not_parsed t e f h k
-  not_assigned_in t d bytes e f (inl h) (inr k) = no_read t k.0 e f h k.1 k.2
-  not_assigned_in t d bytes e f (inr h) (inl k) = turned f e (no_read t h.0 f e k h.1 h.2)
+  not_assigned_in t d bytes e f (inl h) (inr k) = inl (no_read t k.0 e h k.1 k.2)
+  not_assigned_in t d bytes e f (inr h) (inl k) = inr (inl (no_read t h.0 f k h.1 h.2))
   not_assigned_in t d bytes e f (inr h) (inr k) =
       on_document d (λ v x. IsNotAssigned (view v) bytes x) e f (λ v. not_assigned (view v) bytes e f) h.3 k.3
 
@@ -242,8 +237,8 @@ module _ (not_both : (s : Text) (e : ParseError) → IsPointer s → IsParseErro
 
   pub not_patch : (t : List ℕ) (e f : CallError) → IsNotPatchText t e → IsNotPatchText t f → SameStatus e f
   not_patch t e f (inl h) (inl k) = not_parsed t e f h k
-  not_patch t e f (inl h) (inr k) = no_read t k.0 e f h k.2 k.3
-  not_patch t e f (inr h) (inl k) = turned f e (no_read t h.0 f e k h.2 h.3)
+  not_patch t e f (inl h) (inr k) = inl (no_read t k.0 e h k.2 k.3)
+  not_patch t e f (inr h) (inl k) = inr (inl (no_read t h.0 f k h.2 h.3))
   not_patch t e f (inr h) (inr k) = same e f (NotPatch h.1) (NotPatch k.1) h.5 k.5 refl
 
   pub not_applied : (d : Data) (t : List ℕ) (os : List Operation) (e f : CallError) → IsNotAppliedList d t os e → IsNotAppliedList d t os f → SameStatus e f
@@ -255,15 +250,16 @@ module _ (not_both : (s : Text) (e : ParseError) → IsPointer s → IsParseErro
   not_applied d t os e f (inr (inr h)) (inl k) = absurd (k.0 h.0)
   not_applied d t os e f (inr (inr h)) (inr (inr k)) = same e f (PatchFailed h.1.0 h.1.1) (PatchFailed k.1.0 k.1.1) h.1.4 k.1.4 refl
 
-  no_inverse : ((n m : NodeMap) (os : List Operation) (e : PatchError) → IsDocument n → PatchesBy Numeric n os m → RefusesPatchBy Numeric n os e → ⊥) → (d : Data) (t : List ℕ) (os : List Operation) (e f : CallError) → IsNotAppliedList d t os e → ((n : Data) × StaysShallow d os × PatchesBy Numeric (nodes d) os (nodes n) × LacksInverse d n f) → SameStatus e f
-  no_inverse apart d t os e f (inl h) k = absurd (h.0 k.1)
-  no_inverse apart d t os e f (inr (inl h)) k = inl h
-  no_inverse apart d t os e f (inr (inr h)) k = absurd (apart (nodes d) (nodes k.0) os h.1.0 (is_document d) k.2 h.1.2)
+  -- operations that are applied
+  pub applied : ((n m : NodeMap) (os : List Operation) (e : PatchError) → IsDocument n → PatchesBy Numeric n os m → RefusesPatchBy Numeric n os e → ⊥) → (d n : Data) (t : List ℕ) (os : List Operation) (e : CallError) → IsNotAppliedList d t os e → StaysShallow d os → PatchesBy Numeric (nodes d) os (nodes n) → IsOutOfMemory e
+  applied apart d n t os e (inl h) shallow made = absurd (h.0 shallow)
+  applied apart d n t os e (inr (inl h)) shallow made = h
+  applied apart d n t os e (inr (inr h)) shallow made = absurd (apart (nodes d) (nodes n) os h.1.0 (is_document d) made h.1.2)
 
   pub not_patched : ((n m : NodeMap) (os : List Operation) (e : PatchError) → IsDocument n → PatchesBy Numeric n os m → RefusesPatchBy Numeric n os e → ⊥) → (d : Data) (t : List ℕ) (os : List Operation) (e f : CallError) → IsNotPatched d t os e → IsNotPatched d t os f → SameStatus e f
   not_patched apart d t os e f (inl h) (inl k) = not_applied d t os e f h k
-  not_patched apart d t os e f (inl h) (inr k) = no_inverse apart d t os e f h k
-  not_patched apart d t os e f (inr h) (inl k) = turned f e (no_inverse apart d t os f e k h)
+  not_patched apart d t os e f (inl h) (inr k) = inl (applied apart d k.0 t os e h k.1 k.2)
+  not_patched apart d t os e f (inr h) (inl k) = inr (inl (applied apart d h.0 t os f k h.1 h.2))
   not_patched apart d t os e f (inr h) (inr k) = same e f InverseTooDeep InverseTooDeep h.3.3 k.3.3 refl
 
   lacks_value : (t : List ℕ) (ts : List Text) (e f : CallError) → LacksValue t ts e → LacksValue t ts f → SameStatus e f
@@ -293,33 +289,33 @@ module _ (not_both : (s : Text) (e : ParseError) → IsPointer s → IsParseErro
       in_text t k.0 e f (subst (λ (ts : List Text). InText t ts e) (tokens_one bytes h.0 k.0 h.1 k.1) h.2) k.2
 
   -- a value that is found in a text
-  in_text-found : (t : List ℕ) (ts : List Text) (d v : Data) (e f : CallError) → InText t ts e → IsUtf8 t → read t ≡ Some d → FindsValue d ts v → SameStatus e f
-  in_text-found t ts d v e f (inl h) u r there = absurd (h.0 u)
-  in_text-found t ts d v e f (inr (inl h)) u r there = inl h
-  in_text-found t ts d v e f (inr (inr (w, inl h))) u r there = absurd (let no : None ≡ Some d = sym h.1 ∙ r in cc)
-  in_text-found t ts d v e f (inr (inr (w, inr h))) u r there =
+  in_text-found : (t : List ℕ) (ts : List Text) (d v : Data) (e : CallError) → InText t ts e → IsUtf8 t → read t ≡ Some d → FindsValue d ts v → IsOutOfMemory e
+  in_text-found t ts d v e (inl h) u r there = absurd (h.0 u)
+  in_text-found t ts d v e (inr (inl h)) u r there = h
+  in_text-found t ts d v e (inr (inr (w, inl h))) u r there = absurd (let no : None ≡ Some d = sym h.1 ∙ r in cc)
+  in_text-found t ts d v e (inr (inr (w, inr h))) u r there =
       let again : Some h.1.0 ≡ Some d = sym h.1.1 ∙ r in
       let one : h.1.0 ≡ d = cc in
       absurd (Refuses-NamesNothing (nodes d) ts h.0 (subst (λ (x : Data). Refuses (nodes x) ts h.0) one h.1.2) there.path there.named)
 
-  found_in_text : (t bytes : List ℕ) (v : Value) (e f : CallError) → IsNotInText t bytes e → IsUtf8 bytes → IsUtf8 t → FindsAtPointerInText t bytes v → SameStatus e f
-  found_in_text t bytes v e f (inl h) u w there = absurd (no_pointer-parses bytes there.0 e h (u, there.1))
-  found_in_text t bytes v e f (inr h) u w there =
+  pub found_in_text : (t bytes : List ℕ) (v : Value) (e : CallError) → IsNotInText t bytes e → IsUtf8 bytes → IsUtf8 t → FindsAtPointerInText t bytes v → IsOutOfMemory e
+  found_in_text t bytes v e (inl h) u w there = absurd (no_pointer-parses bytes there.0 e h (u, there.1))
+  found_in_text t bytes v e (inr h) u w there =
       let tokens : h.0 ≡ there.0 = tokens_one bytes h.0 there.0 h.1 (u, there.1) in
-      in_text-found t there.0 there.2.0 (view v) e f (subst (λ (ts : List Text). InText t ts e) tokens h.2) w there.2.1 there.2.2
+      in_text-found t there.0 there.2.0 (view v) e (subst (λ (ts : List Text). InText t ts e) tokens h.2) w there.2.1 there.2.2
 
   pub not_printed_from : (format : Format) (t bytes : List ℕ) (room : ℕ) (e f : CallError) → IsNotPrintedFrom format t bytes room e → IsNotPrintedFrom format t bytes room f → SameStatus e f
   not_printed_from format t bytes room e f (inr (inl h)) k = inl h
   not_printed_from format t bytes room e f (inl h) (inr (inl k)) = inr (inl k)
   not_printed_from format t bytes room e f (inr (inr h)) (inr (inl k)) = inr (inl k)
   not_printed_from format t bytes room e f (inl h) (inl k) = not_in_text t bytes e f h k
-  not_printed_from format t bytes room e f (inl h) (inr (inr k)) = found_in_text t bytes k.3.0 e f h k.1 k.2 k.3.1
+  not_printed_from format t bytes room e f (inl h) (inr (inr k)) = inl (found_in_text t bytes k.3.0 e h k.1 k.2 k.3.1)
   not_printed_from format t bytes room e f (inr (inr h)) (inl k) =
-      turned f e (found_in_text t bytes h.3.0 f e k h.1 h.2 h.3.1)
+      inr (inl (found_in_text t bytes h.3.0 f k h.1 h.2 h.3.1))
   not_printed_from format t bytes room e f (inr (inr h)) (inr (inr k)) = rooms e f _ _ room h.4 k.4
 
   -- a value that is found has no error
-  value-found : (t : List ℕ) (ts : List Text) (v : Data) (e : CallError) → LacksValue t ts e → FindsInText t ts v → ⊥
+  pub value-found : (t : List ℕ) (ts : List Text) (v : Data) (e : CallError) → LacksValue t ts e → FindsInText t ts v → ⊥
   value-found t ts v e (inl h) there = let no : None ≡ Some there.0 = sym h.1 ∙ there.1 in cc
   value-found t ts v e (inr h) there =
       let again : Some h.1.0 ≡ Some there.0 = sym h.1.1 ∙ there.1 in

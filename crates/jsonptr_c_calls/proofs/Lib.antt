@@ -2,6 +2,7 @@ pub mod PointerLemmas
 mod NestingLemmas
 mod BoundLemmas
 mod LawLemmas
+mod NotBothLemmas
 mod LocationLemmas
 mod MessageLemmas
 mod BoundedMessages

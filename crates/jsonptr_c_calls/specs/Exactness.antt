@@ -1,7 +1,8 @@
 -- Texts that are read only if each number keeps its digits.
 use Rattle.std.specs.Prelude.{◌≡◌, ◌⊎◌, ℕ, Bool, IsTrue, IsUtf8, List, None, Some, length}
-use Rattle.serde_json.specs.Data.{Data}
-use Rattle.serde_json.specs.Read.{read}
+use Rattle.std.specs.Float.{Float}
+use Rattle.serde_json.specs.Data.{Data, float}
+use Rattle.serde_json.specs.Read.{read, number_of}
 use Rattle.jsonptr.specs.Text.{Text, text}
 use Rattle.jsonptr_numbers.specs.Lost.{Loses}
 use Rattle.jsonptr_numbers.specs.declared.lost.Lost.{Lost}
@@ -41,3 +42,20 @@ LacksPointerOfNumber lost room e =
 -- reports why
 abbrev pub IsNotPointedTo : List ℕ → ℕ → CallError → Type 0
 IsNotPointedTo t room e = IsNotParsed t e ⊎ ((lost : Lost) × IsLossy t lost × LacksPointerOfNumber lost room e)
+
+-- `LacksPointerOfLost t room e`: the first number of `t` that loses digits has no pointer, or it is longer than `room` bytes, and `e`
+-- reports that
+abbrev pub LacksPointerOfLost : List ℕ → ℕ → CallError → Type 0
+LacksPointerOfLost t room e = (lost : Lost) × Loses t lost × LacksPointerOfNumber lost room e
+
+-- `LosesFloat t lost`: `lost` is the first number of `t` that loses digits, and it is read as a float
+abbrev pub LosesFloat : List ℕ → Lost → Type 0
+LosesFloat t lost = (x : Float) × (loses : Loses t lost) × (number_of loses.raw ≡ Some (float x))
+
+-- `LosesDigitsOfFloat t e`: such a number of `t` loses digits, and `e` reports it
+abbrev pub LosesDigitsOfFloat : List ℕ → CallError → Type 0
+LosesDigitsOfFloat t e = (lost : Lost) × LosesFloat t lost × (e ≡ NotExact lost)
+
+-- `LacksPointerOfFloat t room e`: such a number of `t` has no pointer, or it is longer than `room` bytes, and `e` reports that
+abbrev pub LacksPointerOfFloat : List ℕ → ℕ → CallError → Type 0
+LacksPointerOfFloat t room e = (lost : Lost) × LosesFloat t lost × LacksPointerOfNumber lost room e

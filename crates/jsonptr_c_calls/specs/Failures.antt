@@ -1,9 +1,10 @@
 -- Why a call fails, with all fields of its error. The faults are in the order in which a call looks for them.
-use Rattle.std.specs.Prelude.{◌≡◌, ◌⊎◌, ◌++◌, ◌∷◌, [], ℕ, ◌<◌, ◌≤◌, List, IsUtf8, Some, None, length, slice_get, take, ⊤}
+use Rattle.std.specs.Prelude.{◌≡◌, ◌⊎◌, ◌++◌, ◌∷◌, [], ℕ, ◌<◌, ◌≤◌, List, IsUtf8, Some, None, true, length, slice_get, take, ⊤}
 use Rattle.std.specs.Str.Lossy.{utf8_valid_len}
 use Rattle.serde_json.specs.Data.{Data, string}
 use Rattle.serde_json.specs.Find.{as_str}
 use Rattle.serde_json.specs.Read.{read}
+use Rattle.serde_json.specs.Written.{has_float}
 use Rattle.serde_json.specs.declared.value.Value.{Value}
 use Rattle.jsonptr.specs.Json.{nodes}
 use Rattle.jsonptr.specs.Text.{Text, esc, text}
@@ -30,6 +31,10 @@ IsOutOfMemory e = ⊥
 -- `LacksRoom needed room e`: a buffer of `room` bytes is shorter than the `needed` ones, and `e` reports that
 abbrev pub LacksRoom : ℕ → ℕ → CallError → Type 0
 LacksRoom needed room e = (room < needed) × (e ≡ NoRoom needed)
+
+-- `IsTooShort room e`: a buffer of `room` bytes is shorter than some result, and `e` reports that
+abbrev pub IsTooShort : ℕ → CallError → Type 0
+IsTooShort room e = (needed : ℕ) × LacksRoom needed room e
 
 -- `IsNotUtf8 a bytes e`: the argument `a`, which is `bytes`, is not UTF-8, and `e` reports where
 abbrev pub IsNotUtf8 : Argument → List ℕ → CallError → Type 0
@@ -104,6 +109,13 @@ IsNotPrinted format d bytes room e =
     Unfound d bytes e
     ⊎ ((v : Data) × (out : List ℕ) × IsUtf8 bytes × FindsAtPointer d bytes v × IsJsonText format v out
     × LacksRoom (length out) room e)
+
+-- `LacksRoomForFloat format d bytes room e`: the value that the pointer `bytes` resolves to contains a float, and a text of it
+-- is longer than `room` bytes, and `e` reports that
+abbrev pub LacksRoomForFloat : Format → Data → List ℕ → ℕ → CallError → Type 0
+LacksRoomForFloat format d bytes room e =
+    (v : Data) × (out : List ℕ) × FindsAtPointer d bytes v × (has_float v ≡ true) × IsJsonText format v out
+    × LacksRoom (length out) room e
 
 -- `LacksString v room e`: the value `v` is not a string, or one longer than `room` bytes, and `e` reports that
 abbrev pub LacksString : Data → ℕ → CallError → Type 0

@@ -1,7 +1,8 @@
 -- Resolving in a JSON text that is not read into a document.
-use Rattle.std.specs.Prelude.{◌≡◌, ◌⊎◌, ℕ, IsUtf8, List, None, length}
+use Rattle.std.specs.Prelude.{◌≡◌, ◌⊎◌, ℕ, IsUtf8, List, None, true, length}
 use Rattle.serde_json.specs.Read.{read}
 use Rattle.serde_json.specs.View.{view}
+use Rattle.serde_json.specs.Written.{has_float}
 use Rattle.serde_json.specs.declared.value.Value.{Value}
 use Rattle.jsonptr.specs.Text.{Text}
 use Rattle.jsonptr_in_text.specs.InText.{FindsInText, RefusesInText}
@@ -42,3 +43,10 @@ IsNotPrintedFrom format text bytes room e =
     ⊎ (IsOutOfMemory e
     ⊎ ((out : List ℕ) × IsUtf8 bytes × IsUtf8 text × FindsTextIn format text bytes out
     × LacksRoom (length out) room e))
+
+-- `LacksRoomForFloatIn format text bytes room e`: that value contains a float, and a text of it is longer than `room` bytes, and
+-- `e` reports that
+abbrev pub LacksRoomForFloatIn : Format → List ℕ → List ℕ → ℕ → CallError → Type 0
+LacksRoomForFloatIn format text bytes room e =
+    (v : Value) × (out : List ℕ) × FindsAtPointerInText text bytes v × (has_float (view v) ≡ true)
+    × IsJsonText format (view v) out × LacksRoom (length out) room e

@@ -1,25 +1,34 @@
 //! Laws of the errors of the calls.
-ghost use Rattle.std.specs.Prelude.{◌≡◌, ◌≤◌, ℕ, List, length};
+ghost use Rattle.std.specs.Prelude.{◌≡◌, ◌≤◌, ◌⊎◌, ℕ, Bool, IsTrue, IsUtf8, List, Some, length, take};
 ghost use Rattle.serde_json.specs.Data.{Data};
+ghost use Rattle.serde_json.specs.Read.{read as read_text};
 ghost use Rattle.serde_json.specs.View.{view};
-ghost use Rattle.jsonptr.specs.Text.{Text};
+ghost use Rattle.serde_json.specs.declared.value.Value.{Value as JsonValue};
+ghost use Rattle.jsonptr.specs.Text.{Text, esc};
 ghost use Rattle.jsonptr_c_handle.specs.declared.handle.Handle.{Handle};
 ghost use Rattle.jsonptr_patch.specs.declared.operation.Operation.{Operation};
-ghost use Rattle.jsonptr_c_calls.specs.Editing.{IsNotDeleted, IsTextNotAssigned};
+ghost use Rattle.jsonptr_c_calls.specs.Editing.{AssignsAtPointer, DeletesAtPointer, IsNotDeleted, IsTextNotAssigned};
+ghost use Rattle.jsonptr_numbers.specs.Digits.{KeepsDigits};
 ghost use Rattle.jsonptr_numbers.specs.declared.lost.Lost.{Lost};
-ghost use Rattle.jsonptr_c_calls.specs.Exactness.{IsNotParsedExactly, LacksPointerOfNumber};
-ghost use Rattle.jsonptr_c_calls.specs.Failures.{FailsOnHandle, IsNoPointer, IsNoToken, IsNotEscaped, IsNotParsed, IsNotPopped, IsNotPrinted, IsNotPushed, IsNotRead, SameStatus, Unfound};
-ghost use Rattle.jsonptr_c_calls.specs.InTexts.{IsNotPrintedFrom};
-ghost use Rattle.jsonptr_c_calls.specs.Locations.{IsNotLocated, LacksLocation};
+ghost use Rattle.jsonptr_c_calls.specs.Exactness.{IsNotParsedBy, IsNotParsedExactly, IsNotPointedTo, LacksPointerOfFloat, LacksPointerOfLost, LacksPointerOfNumber, LosesDigitsOfFloat};
+ghost use Rattle.jsonptr_c_calls.specs.Failures.{FailsOnHandle, IsNoPointer, IsNoToken, IsNotEscaped, IsNotParsed, IsNotPopped, IsNotPrinted, IsNotPushed, IsNotRead, IsNotWritten, IsOutOfMemory, IsTooShort, LacksRoomForFloat, SameStatus, Unfound};
+ghost use Rattle.jsonptr_c_calls.specs.InTexts.{FindsTextIn, IsNotPrintedFrom, LacksRoomForFloatIn};
+ghost use Rattle.jsonptr_c_calls.specs.Locations.{IsNotLocated, IsNotPointedAt, LacksLocation, LacksPointerAt, LocatesInText, PointsAt};
 ghost use Rattle.jsonptr_c_calls.specs.Messages.{HasMessageNumbers, error_message, message_of, message_room};
-ghost use Rattle.jsonptr_c_calls.specs.Patches.{IsNotAppliedList, IsNotPatched, IsNotPatchText};
+ghost use Rattle.jsonptr_c_calls.specs.Nodes.{FindsNode};
+ghost use Rattle.jsonptr_c_calls.specs.Patches.{AppliesText, AppliesWithInverse, IsDiffText, IsNotApplied, IsNotAppliedList, IsNotAppliedWithInverse, IsNotCompared, IsNotPatched, IsNotPatchText};
+ghost use Rattle.jsonptr_c_calls.specs.Pointers.{Extends, HasCount, HasToken, Shortens};
 ghost use Rattle.jsonptr_c_calls.specs.ErrorNumbers.{record_of};
+ghost use Rattle.jsonptr_c_calls.specs.Values.{Changes, FindsString, FindsTextOf, HoldsWith, ReadsInto};
 ghost use Rattle.jsonptr_c_calls.specs.declared.call_error.CallError.{CallError};
+ghost use Rattle.jsonptr_c_calls.specs.declared.call_error.CallError.TheVariants.{InverseTooDeep, NotLocated};
 ghost use Rattle.jsonptr_c_calls.specs.declared.error_numbers.ErrorRecord.{ErrorRecord};
+ghost use Rattle.jsonptr_c_calls.specs.declared.node.NodeInfo.{NodeInfo};
 ghost use Rattle.jsonptr_in_text.specs.declared.format.Format.{Format};
 
 use jsonptr::laws::parse_law;
 use jsonptr_patch::laws::patch::comparing_patch_law;
+use jsonptr_patch_document::laws::patch_document_law;
 
 /// States that the message of the record of an error is the text of the error, and that no message is
 /// longer than 200 bytes, also that of a record which is not of an error.
@@ -79,5 +88,103 @@ pub fn one_error_law()
         → LacksLocation text tokens e → LacksLocation text tokens f → SameStatus e f }
 {
     parse_law();
+    comparing_patch_law();
+}
+
+/// States that success and failure of a call exclude each other, apart from failed allocations and the
+/// errors that a clause leaves open.
+///
+/// Each clause takes what the call states of a success and of an error, for the same arguments and a
+/// buffer of the same length. `count` and `pop` allocate nothing, and have no error then. Left open is:
+///
+/// - `NoRoom` of `get` and `resolve` for a value that contains a float, since the text of a float is not
+///   fixed; and of `patch_with_inverse` and `diff`, since it is not fixed which inverse and which
+///   difference they make;
+/// - `InverseTooDeep` of `patch_with_inverse`, for the same reason;
+/// - `NotExact` of `parse_exactly` for a number that is read as a float;
+/// - `NotExact` and `NoRoom` of `lost_number` for the number that is lost. If each number keeps its
+///   digits (`none_lost`), it is read as a float;
+/// - `NotLocated` of `locate` and `pointer_at`, and `NoValue` and `NoRoom` of `pointer_at`.
+pub fn not_both_law()
+    ensures count { (pointer : List ℕ) (n : ℕ) (e : CallError)
+        → IsUtf8 pointer → HasCount pointer n
+        → IsNoPointer pointer e → ⊥ }
+    ensures token { (pointer : List ℕ) (position : ℕ) (out : List ℕ) (n : ℕ) (e : CallError)
+        → IsUtf8 pointer → HasToken pointer position (take n out)
+        → IsNoToken pointer position (length out) e → IsOutOfMemory e }
+    ensures escape { (token out : List ℕ) (n : ℕ) (e : CallError)
+        → IsUtf8 token → take n out ≡ esc token
+        → IsNotEscaped token (length out) e → IsOutOfMemory e }
+    ensures push { (before : ℕ) (old new token : List ℕ) (n : ℕ) (e : CallError)
+        → length new ≡ length old → before ≤ length old → IsUtf8 (take before old) → IsUtf8 token
+        → Extends (take before old) token (take n new)
+        → IsNotPushed before old token e → IsOutOfMemory e }
+    ensures pop { (pointer : List ℕ) (n : ℕ) (e : CallError)
+        → IsUtf8 pointer → Shortens pointer n
+        → IsNotPopped pointer e → ⊥ }
+    ensures parse { (text : List ℕ) (document : Handle) (e : CallError)
+        → IsUtf8 text → ReadsInto text document
+        → IsNotParsed text e → IsOutOfMemory e }
+    ensures parse_exactly { (text : List ℕ) (document : Handle) (e : CallError)
+        → IsUtf8 text → ReadsInto text document → KeepsDigits text
+        → IsNotParsedExactly text e → IsOutOfMemory e ⊎ LosesDigitsOfFloat text e }
+    ensures parse_with { (is_exact : Bool) (text : List ℕ) (document : Handle) (e : CallError)
+        → IsUtf8 text → ReadsInto text document → (IsTrue is_exact → KeepsDigits text)
+        → IsNotParsedBy is_exact text e
+        → IsOutOfMemory e ⊎ (IsTrue is_exact × LosesDigitsOfFloat text e) }
+    ensures get { (d : Handle) (format : Format) (pointer out : List ℕ) (n : ℕ) (e : CallError)
+        → IsUtf8 pointer → HoldsWith d (λ v. FindsTextOf format (view v) pointer (take n out))
+        → FailsOnHandle d (λ v. IsNotPrinted format (view v) pointer (length out) e) e
+        → IsOutOfMemory e
+        ⊎ HoldsWith d (λ v. LacksRoomForFloat format (view v) pointer (length out) e) }
+    ensures string { (d : Handle) (pointer out : List ℕ) (n : ℕ) (e : CallError)
+        → IsUtf8 pointer → HoldsWith d (λ v. FindsString (view v) pointer (take n out))
+        → FailsOnHandle d (λ v. IsNotRead (view v) pointer (length out) e) e → IsOutOfMemory e }
+    ensures node { (d : Handle) (pointer : List ℕ) (node : NodeInfo) (e : CallError)
+        → IsUtf8 pointer → HoldsWith d (λ v. FindsNode (view v) pointer node)
+        → FailsOnHandle d (λ v. Unfound (view v) pointer e) e → IsOutOfMemory e }
+    ensures assign { (text : List ℕ) (old new : Handle) (pointer : List ℕ) (v : JsonValue) (e : CallError)
+        → IsUtf8 text → IsUtf8 pointer → read_text text ≡ Some (view v)
+        → Changes old (λ d n. AssignsAtPointer d pointer (view v) n) new
+        → IsTextNotAssigned text old pointer e → IsOutOfMemory e }
+    ensures delete { (old new : Handle) (pointer : List ℕ) (found : Bool) (e : CallError)
+        → IsUtf8 pointer → Changes old (λ d n. DeletesAtPointer d pointer found n) new
+        → FailsOnHandle old (λ v. IsNotDeleted pointer e) e → IsOutOfMemory e }
+    ensures patch { (text : List ℕ) (old new : Handle) (e : CallError)
+        → IsUtf8 text → Changes old (λ d n. AppliesText text d n) new
+        → IsNotPatchText text e ⊎ IsNotApplied text old e → IsOutOfMemory e }
+    ensures patch_with_inverse { (format : Format) (text : List ℕ) (old new : Handle) (out : List ℕ)
+        (n : ℕ) (e : CallError)
+        → IsUtf8 text → Changes old (λ d m. AppliesWithInverse format text d m (take n out)) new
+        → IsNotPatchText text e ⊎ IsNotAppliedWithInverse format text old (length out) e
+        → IsOutOfMemory e ⊎ ((e ≡ InverseTooDeep) ⊎ IsTooShort (length out) e) }
+    ensures diff { (format : Format) (old new : Handle) (out : List ℕ) (n : ℕ) (e : CallError)
+        → HoldsWith old (λ v. HoldsWith new (λ w. IsDiffText format (view v) (view w) (take n out)))
+        → FailsOnHandle old (λ v. FailsOnHandle new
+        (λ w. IsNotCompared format (view v) (view w) (length out) e) e) e
+        → IsOutOfMemory e ⊎ IsTooShort (length out) e }
+    ensures resolve { (format : Format) (text pointer out : List ℕ) (n : ℕ) (e : CallError)
+        → IsUtf8 text → IsUtf8 pointer → FindsTextIn format text pointer (take n out)
+        → IsNotPrintedFrom format text pointer (length out) e
+        → IsOutOfMemory e ⊎ LacksRoomForFloatIn format text pointer (length out) e }
+    ensures lost_number { (text : List ℕ) (d : Data) (room : ℕ) (e : CallError)
+        → IsUtf8 text → read_text text ≡ Some d
+        → IsNotPointedTo text room e → IsOutOfMemory e ⊎ LacksPointerOfLost text room e }
+    ensures none_lost { (text : List ℕ) (d : Data) (room : ℕ) (e : CallError)
+        → IsUtf8 text → read_text text ≡ Some d → KeepsDigits text
+        → IsNotPointedTo text room e → IsOutOfMemory e ⊎ LacksPointerOfFloat text room e }
+    ensures locate { (text pointer : List ℕ) (start end : ℕ) (e : CallError)
+        → IsUtf8 text → IsUtf8 pointer → LocatesInText text pointer start end
+        → IsNotLocated text pointer e → IsOutOfMemory e ⊎ (e ≡ NotLocated) }
+    ensures pointer_at { (text : List ℕ) (offset : ℕ) (out : List ℕ) (n : ℕ) (e : CallError)
+        → IsUtf8 text → PointsAt text offset (take n out)
+        → IsNotPointedAt text offset (length out) e
+        → IsOutOfMemory e ⊎ ((e ≡ NotLocated) ⊎ LacksPointerAt text offset (length out) e) }
+    ensures message { (r : ErrorRecord) (out : List ℕ) (n : ℕ) (e : CallError)
+        → take n out ≡ message_of r
+        → IsNotWritten (message_of r) (length out) e → IsOutOfMemory e }
+{
+    parse_law();
+    patch_document_law();
     comparing_patch_law();
 }
