@@ -16,7 +16,7 @@ use Rattle.jsonptr_patch_document.specs.declared.error.PatchDocumentError.{Patch
 use Rattle.jsonptr_patch_document.specs.declared.member.Member.{Member}
 use Rattle.jsonptr_patch_document.specs.declared.member.Member.TheVariants as member
 use Rattle.jsonptr_c_handle.specs.declared.handle.Handle.{Handle}
-use Rattle.jsonptr_diff.specs.Diff.{IsChange}
+use Rattle.jsonptr_diff.specs.Diff.{IsChange, StepsTo}
 use Rattle.jsonptr_c_calls.specs.Depths.{StaysShallow}
 use Rattle.jsonptr_c_calls.specs.Failures.{FailsOnHandle, IsNotParsed, IsOutOfMemory, LacksRoom}
 use Rattle.jsonptr_c_calls.specs.Sources.{IsFaultOf, source_at}
@@ -74,11 +74,11 @@ IsNotApplied text d e = (os : List Operation) × IsUtf8 text × IsPatchText text
     × FailsOnHandle d (λ v. IsNotAppliedList (view v) text os e) e
 
 -- `IsDiffText format d n text`: `text` is that of a patch document whose operations turn the document `d` into `n`, in
--- this format. Each is a change of `d` into `n`
+-- this format. Each is a change of `d` into `n`, and a step to `n`
 abbrev pub IsDiffText : Format → Data → Data → List ℕ → Type 0
 IsDiffText format d n text =
     (os : List Operation) × Patches (nodes d) os (nodes n) × All (IsChange (nodes d) (nodes n)) os
-    × IsJsonText format (document_of os) text
+    × StepsTo (nodes n) (nodes d) os (nodes n) × IsJsonText format (document_of os) text
 
 -- `IsNotCompared format d n room e`: the text of such a patch document does not come to `room` bytes, and `e` reports why
 abbrev pub IsNotCompared : Format → Data → Data → ℕ → CallError → Type 0
