@@ -233,6 +233,7 @@ def check_version():
         ("docs/C.md", f"`lib/libjsonptr.so.{interface}`"),
         ("docs/C.md", f"or else `libjsonptr.so.{interface}`"),
         ("docs/C.md", f"(`JSONPTR_{interface}`)"),
+        ("docs/C.md", f"find_package(jsonptr {interface} REQUIRED)"),
     )
     for name, text in places:
         expect(os.path.exists(f"{TOP}/{name}") and text in read(name), name, f"'{text}' is missing")
