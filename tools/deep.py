@@ -19,6 +19,8 @@ LIMITS = (*range(4, 40, 2), *range(40, 161, 10), 320, 640, 1_024)  # of memory, 
 MAX_DEPTH = 127  # of a JSON text that is read
 MAX_TOML_DEPTH = 80  # of the values of a TOML text that is printed
 JPTR, RUN = program("jptr"), program("jsonptr_run")
+# Statuses of jptr.
+NOT_MADE, LINE_AT_FAULT = 6, 7
 NOT_DELETED = "delete failed: json pointer does not resolve"
 TOO_DEEP = f"document would nest deeper than {MAX_DEPTH}"
 LINE_TOO_DEEP = f"line 1: document would nest deeper than {MAX_DEPTH}"
@@ -134,22 +136,22 @@ def of_jptr():
             yield Case((JPTR, "escape", pointer), "", 0, pointer.replace("/", "~1") + "\n")
             yield Case((JPTR, "unescape", "~1" * count), "", 0, "/" * count + "\n")
             for field in (pointer, f'"{pointer}"'):
-                yield Case((JPTR, "from-paths"), f"{field}\t1\n", 1, error=named(LINE_TOO_DEEP))
+                yield Case((JPTR, "from-paths"), f"{field}\t1\n", NOT_MADE, error=named(LINE_TOO_DEEP))
             for layout in ((), ("--compact",), ("--pretty",)):
                 for document in DOCUMENTS:
                     yield from on_document(layout, pointer, token, document)
-            yield Case((JPTR, "get", "--lines", pointer), lines, 1, error=numbered(not_resolved(DOCUMENTS[0], token)))
+            yield Case((JPTR, "get", "--lines", pointer), lines, LINE_AT_FAULT, error=numbered(not_resolved(DOCUMENTS[0], token)))
             yield Case((JPTR, "get", "--lines", "--default", "7", pointer), lines, 0, "7\n" * len(DOCUMENTS))
-            yield Case((JPTR, "set", "--lines", pointer, "1"), lines, 1, error=numbered(TOO_DEEP))
-            yield Case((JPTR, "set", "--lines", "--strict", pointer, "1"), lines, 1, error=numbered(TOO_DEEP))
-            yield Case((JPTR, "delete", "--lines", pointer), lines, 1, error=numbered(NOT_DELETED))
+            yield Case((JPTR, "set", "--lines", pointer, "1"), lines, LINE_AT_FAULT, error=numbered(TOO_DEEP))
+            yield Case((JPTR, "set", "--lines", "--strict", pointer, "1"), lines, LINE_AT_FAULT, error=numbered(TOO_DEEP))
+            yield Case((JPTR, "delete", "--lines", pointer), lines, LINE_AT_FAULT, error=numbered(NOT_DELETED))
 
 
 def on_document(layout, pointer, token, document):
     """`get`, `set` and `delete` on one document."""
     yield Case((JPTR, "get", *layout, pointer), document, 1, error=named(not_resolved(document, token)))
     error = ASSIGN_BAD_INDEX.format(0) if is_refused(document, token) else TOO_DEEP
-    yield Case((JPTR, "set", *layout, pointer, "1"), document, 1, error=named(error))
+    yield Case((JPTR, "set", *layout, pointer, "1"), document, NOT_MADE, error=named(error))
     yield Case((JPTR, "delete", *layout, pointer), document, 1, error=named(NOT_DELETED))
 
 
@@ -160,7 +162,7 @@ def of_toml():
         for count in COUNTS:
             pointer = f"/{token}" * count
             yield Case((JPTR, "get", "--toml", pointer), text, 1, error=named(RESOLVE_NOT_FOUND.format(0)))
-            yield Case((JPTR, "set", "--toml", pointer, "1"), text, 1, error=named(TOML_TOO_DEEP))
+            yield Case((JPTR, "set", "--toml", pointer, "1"), text, NOT_MADE, error=named(TOML_TOO_DEEP))
             yield Case((JPTR, "delete", "--toml", pointer), text, 1, error=named(NOT_DELETED))
 
 
@@ -227,7 +229,7 @@ def patches(folder):
                     number += 1
                     path = written(f"{folder}/{number}.json", f"[{json_object(**members)}]")
                     yield Case((JPTR, "patch", path), document, 1, error=named(error))
-                    yield Case((JPTR, "patch", "--lines", path), f"{document}\n", 1, error=numbered(error))
+                    yield Case((JPTR, "patch", "--lines", path), f"{document}\n", LINE_AT_FAULT, error=numbered(error))
 
 
 def doubled():
@@ -263,7 +265,7 @@ def check_read_again(folder):
             given = start((JPTR, "diff", old, new), "")
             below = 0 if before == "1" else 2 if before == "[[1]]" else 1
             if depth - below + 2 > MAX_DEPTH:
-                check_equal((given.returncode, given.stdout, given.stderr.decode()), (3, b"", f"jptr: {new}: {PATCH_TOO_DEEP}\n"), "diff")
+                check_equal((given.returncode, given.stdout, given.stderr.decode()), (NOT_MADE, b"", f"jptr: {new}: {PATCH_TOO_DEEP}\n"), "diff")
             else:
                 check_equal(given.returncode, 1, "diff")
                 written(patch, given.stdout.decode())
@@ -277,7 +279,7 @@ def check_read_again(folder):
             wanted = '{"a":' * count + nested(depth) + "}" * count + "\n"
             if count + depth > MAX_DEPTH:
                 wanted = ""
-                check_equal((given.returncode, given.stderr.decode()), (1, f"{named(LINE_TOO_DEEP)}\n"), "from-paths")
+                check_equal((given.returncode, given.stderr.decode()), (NOT_MADE, f"{named(LINE_TOO_DEEP)}\n"), "from-paths")
             else:
                 check_equal(start((JPTR, "get", ""), wanted).stdout.decode(), wanted, "get after from-paths")
             check_equal(given.stdout.decode(), wanted, "from-paths")
@@ -296,7 +298,7 @@ def check_toml_read_again():
                 pointer = "/a" + f"/{token}" * (count - 1)
                 given = start((JPTR, "set", "--toml", pointer, nested(depth)), "x = 1\n")
                 if count - 1 + depth > MAX_TOML_DEPTH:
-                    check_equal((given.returncode, given.stderr.decode()), (1, f"{named(TOML_TOO_DEEP)}\n"), "set --toml")
+                    check_equal((given.returncode, given.stderr.decode()), (NOT_MADE, f"{named(TOML_TOO_DEEP)}\n"), "set --toml")
                 else:
                     pointer = pointer.replace("-", "0")
                     found = start((JPTR, "get", "--toml", pointer), given.stdout.decode())
@@ -313,11 +315,11 @@ def check_in_place(folder):
         for token in TOKENS[:2] if document == "[]" else TOKENS:
             given = start((JPTR, "set", "-i", *words, f"/{token}" * COUNTS[-1], "1", path), "")
             with open(path, encoding="utf-8") as file:
-                check_equal((given.returncode, file.read()), (1, document), "set -i")
+                check_equal((given.returncode, file.read()), (NOT_MADE, document), "set -i")
             runs += 1
     patch = written(f"{folder}/doubled.json", doubled())
     given = start((JPTR, "patch", patch), nested(MAX_DEPTH))
-    check_equal((given.returncode, given.stderr.decode()), (1, f"{named(TOO_DEEP)}\n"), "patch that doubles the depth")
+    check_equal((given.returncode, given.stderr.decode()), (NOT_MADE, f"{named(TOO_DEEP)}\n"), "patch that doubles the depth")
     return runs + 1
 
 
