@@ -32,7 +32,7 @@ pub fn change_law()
 ///
 /// - Steps are a patch: in order they make the last document of the first.
 /// - An object is not replaced where the other document has an object, nor an array where it has an array.
-/// - What was replaced is not replaced again.
+/// - The next operation does not replace again what was replaced.
 pub fn step_law()
     ensures applied { (m n k : NodeMap) (os : List Operation) → StepsTo m n os k → Patches n os k }
     ensures followed { (m n : NodeMap) (path : List Text) (value : Value) (w : Path)
