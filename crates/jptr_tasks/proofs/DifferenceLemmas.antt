@@ -12,7 +12,7 @@ use Rattle.jsonptr.specs.Documents.{IsDocument}
 use Rattle.jsonptr.proofs.Calling.{map_of-IsTree, map_of-finite}
 use Rattle.jsonptr.specs.Node.{NodeMap}
 use Rattle.jsonptr.specs.Json.{nodes, content}
-use Rattle.jsonptr_patch.specs.Patching.{Patches, PatchesBy, RefusesPatchBy}
+use Rattle.jsonptr_patch.specs.Patching.{PatchesBy, RefusesPatchBy}
 use Rattle.jsonptr_patch.specs.declared.comparison.Comparison.TheVariants.{Numeric}
 use Rattle.jsonptr_patch.specs.declared.operation.Operation.{Operation}
 use Rattle.jsonptr_patch.specs.declared.operation.PatchError.{PatchError}
@@ -34,7 +34,7 @@ use Rattle.jptr_tasks.specs.Layouts.{ShowsInLayout, Lays, ReadsBack}
 use Rattle.jptr_tasks.specs.Results.{FailsToPatch}
 use Rattle.jptr_tasks.specs.declared.difference.PatchText.{PatchText}
 use Rattle.jptr_tasks.specs.declared.task_error.TaskError.{TaskError}
-use Rattle.jptr_tasks.specs.declared.task_error.TaskError.TheVariants.{NotPatch, PatchFailed, TooDeep, NotInPlace, PatchTooDeep, NotJson, Memory, Read}
+use Rattle.jptr_tasks.specs.declared.task_error.TaskError.TheVariants.{NotPatch, PatchFailed, TooDeep, NotInPlace, PatchTooDeep, NotJson, Memory}
 use Rattle.jptr_tasks.specs.declared.layout.Layout.{Layout}
 use Rattle.jptr_tasks.specs.declared.layout.Layout.TheVariants.{Kept, Compact, Pretty, Sorted, SortedPretty, Raw}
 
@@ -124,7 +124,7 @@ one_read text d e h k =
 pub is_document : (d : Data) → IsDocument (nodes d)
 is_document d = (map_of-IsTree (content d), map_of-finite (content d))
 
--- what is printed is read as that document, in each layout but that of a string without quotes
+-- what is printed is read as that document, in each layout except that of a string without quotes
 pub printed : (layout : Layout) (text out : Text) (d : Data) → read text ≡ Some d → layout ≢ Raw → Lays layout text out → read out ≡ Some d
 printed Kept text out d reads other h = restyled Kept text out d reads h
 printed Compact text out d reads other h = restyled Compact text out d reads h

@@ -1,11 +1,13 @@
 -- The patch that takes a patch back.
-use Rattle.std.specs.Prelude.{◌≡◌, ◌<◌, List, Some, None, ⊤}
+use Rattle.std.specs.Prelude.{◌≡◌, ◌<◌, List, Some, None, ⊤, string_bytes, All}
 use Rattle.serde_json.specs.Data.{Data, depth}
 use Rattle.serde_json.specs.Read.{read, max_depth}
 use Rattle.jsonptr.specs.Text.{Text}
-use Rattle.jsonptr.specs.Json.{nodes}
+use Rattle.jsonptr.specs.Json.{nodes, HasSortedKeys}
 use Rattle.jsonptr.specs.Node.{NodeMap}
-use Rattle.jsonptr_patch.specs.Patching.{Patches, PatchesBy, RefusesPatchBy}
+use Rattle.jsonptr_patch.specs.Inverse.{TakesAllBackBy}
+use Rattle.jsonptr_patch.specs.Order.{OperationHasSortedKeys}
+use Rattle.jsonptr_patch.specs.Patching.{PatchesBy, RefusesPatchBy}
 use Rattle.jsonptr_patch.specs.declared.comparison.Comparison.TheVariants.{Numeric}
 use Rattle.jsonptr_patch.specs.declared.operation.Operation.{Operation}
 use Rattle.jsonptr_patch_document.specs.Document.{IsPatch, IsNoPatch}
@@ -24,6 +26,23 @@ IsInverse text patch layout u =
     × (read text ≡ Some d) × IsPatch patch os × PatchesBy Numeric (nodes d) os m
     × IsDifference m (nodes d) layout u
 
+-- `TakesPatchBack text patch u`: the text of `u` is read as the patch document of the operations that take those of `patch`
+-- back on the document of `text`
+abbrev pub TakesPatchBack : Text → Data → PatchText → Type 0
+TakesPatchBack text patch u =
+    (d : Data) × (os back : List Operation)
+    × (read text ≡ Some d) × IsPatch patch os × TakesAllBackBy Numeric (nodes d) os back
+    × (read (string_bytes u.text) ≡ Some (document_of back))
+
+-- `HasDeepInverse text patch`: the patch document of the operations that take those of `patch` back on the document of `text`
+-- nests deeper than 127. The keys of its values are sorted if those of `patch` are
+abbrev pub HasDeepInverse : Text → Data → Type 0
+HasDeepInverse text patch =
+    (d : Data) × (os back : List Operation)
+    × (read text ≡ Some d) × IsPatch patch os × TakesAllBackBy Numeric (nodes d) os back
+    × (HasSortedKeys patch → All OperationHasSortedKeys back)
+    × (max_depth < depth (document_of back))
+
 -- `FailsToInvert text patch e`: `e` is why no patch is printed that takes `patch` back, unless an allocation failed.
 -- The document `patch` is read first
 abbrev pub FailsToInvert : Text → Data → TaskError → Type 0
@@ -32,9 +51,6 @@ FailsToInvert text patch NotJson = ((os : List Operation) × IsPatch patch os) �
 FailsToInvert text patch (PatchFailed f) =
     (os : List Operation) × (d : Data)
     × IsPatch patch os × (read text ≡ Some d) × RefusesPatchBy Numeric (nodes d) os f
-FailsToInvert text patch PatchTooDeep =
-    (os back : List Operation) × (d : Data) × (m : NodeMap)
-    × IsPatch patch os × (read text ≡ Some d) × PatchesBy Numeric (nodes d) os m
-    × Patches m back (nodes d) × (max_depth < depth (document_of back))
+FailsToInvert text patch PatchTooDeep = HasDeepInverse text patch
 FailsToInvert text patch (Memory f) = ⊤
 FailsToInvert text patch e = ⊥

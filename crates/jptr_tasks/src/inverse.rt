@@ -1,10 +1,12 @@
 //! The inverse of a patch document: the one that takes it back.
-ghost use Rattle.std.specs.Prelude.{IfOk, IfErr};
+ghost use Rattle.std.specs.Prelude.{All, IfOk, IfErr};
 ghost use Rattle.serde_json.specs.View.{view};
-ghost use Rattle.jsonptr.specs.Json.{nodes};
+ghost use Rattle.jsonptr.specs.Json.{nodes, HasSortedKeys};
+ghost use Rattle.jsonptr_patch.specs.Inverse.{TakesAllBackBy};
+ghost use Rattle.jsonptr_patch.specs.Order.{OperationHasSortedKeys};
 ghost use Rattle.jsonptr_patch.specs.Patching.{Patches, PatchesBy};
 ghost use Rattle.jsonptr_patch.specs.declared.comparison.Comparison.TheVariants.{Numeric};
-ghost use Rattle.jptr_tasks.specs.Inverting.{IsInverse, FailsToInvert};
+ghost use Rattle.jptr_tasks.specs.Inverting.{IsInverse, TakesPatchBack, FailsToInvert};
 ghost use Rattle.jptr_tasks.specs.PrivateResults.{IsApplyFault};
 
 use crate::difference::{PatchText, patch_text};
@@ -13,6 +15,7 @@ use crate::patch::operations_of;
 use crate::task_error::TaskError;
 use jsonptr::Fault;
 use jsonptr_patch::{Comparison, Operation, apply_comparing_with_inverse};
+use jsonptr_patch_document::laws::patch_document_law;
 use serde_json::Value;
 use std::alloc::Global;
 
@@ -27,8 +30,9 @@ use std::alloc::Global;
 /// - [`TaskError::NotPatch`] if the patch document is not a patch, and [`TaskError::PatchFailed`] if an
 ///   operation fails.
 /// - [`TaskError::NotJson`] if the text is not JSON.
-/// - [`TaskError::PatchTooDeep`] if the inverse nests deeper than 127. A value of the document is two
-///   levels deeper in it, less the levels of its pointer. That it is the inverse that was made is tested.
+/// - [`TaskError::PatchTooDeep`] if the inverse nests deeper than 127. Its values are those that the patch
+///   removes or replaces, two levels deeper. So one of them nests deeper than 125
+///   ([`inverse_depth_law`](crate::laws::inverse_depth_law)).
 /// - [`TaskError::Memory`] if an allocation fails.
 ///
 /// # Examples
@@ -46,8 +50,10 @@ pub fn inverse_of(
     layout: Layout,
 ) -> Result<PatchText, TaskError>
     ensures inverse { IfOk result (IsInverse text.now (view patch.now) layout) }
+    ensures taken_back { IfOk result (TakesPatchBack text.now (view patch.now)) }
     ensures refused { IfErr result (FailsToInvert text.now (view patch.now)) }
 {
+    patch_document_law();
     let operations = operations_of(alloc, patch)?;
     let mut document = read_document(alloc, text)?;
     let inverse = apply_numerically_with_inverse(alloc, &mut document, operations)?;
@@ -71,6 +77,10 @@ fn apply_numerically_with_inverse(
         (nodes (view document.new))) }
     ensures inverse { IfOk result (λ inverse.
         Patches (nodes (view document.new)) inverse.items (nodes (view document.old))) }
+    ensures taken_back { IfOk result (λ inverse.
+        TakesAllBackBy Numeric (nodes (view document.old)) operations.items inverse.items) }
+    ensures sorted { IfOk result (λ inverse. All OperationHasSortedKeys operations.items
+        → HasSortedKeys (view document.old) → All OperationHasSortedKeys inverse.items) }
     ensures refused { IfErr result (IsApplyFault (nodes (view document.old)) operations.items) }
 {
     match apply_comparing_with_inverse(alloc, document, operations, Comparison::Numeric) {

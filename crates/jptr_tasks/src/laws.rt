@@ -8,9 +8,12 @@ ghost use Rattle.serde_json.specs.Data.{Data};
 ghost use Rattle.serde_json.specs.Read.{read};
 ghost use Rattle.serde_json.specs.View.{view};
 ghost use Rattle.jsonptr.specs.Text.{Text};
-ghost use Rattle.jsonptr.specs.Json.{nodes};
+ghost use Rattle.jsonptr.specs.Json.{nodes, HasSortedKeys};
 ghost use Rattle.jsonptr_io.specs.Lines.{AreLines};
-ghost use Rattle.jsonptr_patch_document.specs.Document.{IsNoPatch};
+ghost use Rattle.jsonptr_patch.specs.Inverse.{HasDeepNodeBefore};
+ghost use Rattle.jsonptr_patch.specs.declared.comparison.Comparison.TheVariants.{Numeric};
+ghost use Rattle.jsonptr_patch.specs.declared.operation.Operation.{Operation};
+ghost use Rattle.jsonptr_patch_document.specs.Document.{IsPatch, IsNoPatch};
 ghost use Rattle.jsonptr_patch_document.specs.declared.error.PatchDocumentError.{PatchDocumentError};
 ghost use Rattle.jsonptr_paths.specs.declared.listing.Listed.TheVariants.{AllNodes};
 ghost use Rattle.jsonptr_paths.specs.declared.build.LineError.{LineError};
@@ -18,14 +21,14 @@ ghost use Rattle.jptr_tasks.specs.Cutting.{EndsInLineFeed, InputGives, IsShifted
 ghost use Rattle.jptr_tasks.specs.Documents.{TaskFailsOn};
 ghost use Rattle.jptr_tasks.specs.LineResults.{IsLineFault, LinesGive, StopsRun};
 ghost use Rattle.jptr_tasks.specs.Differences.{IsDifference};
-ghost use Rattle.jptr_tasks.specs.Inverting.{IsInverse};
+ghost use Rattle.jptr_tasks.specs.Inverting.{IsInverse, TakesPatchBack, FailsToInvert};
 ghost use Rattle.jptr_tasks.specs.Layouts.{ShowsInLayout, ReadsBack};
 ghost use Rattle.jptr_tasks.specs.Paths.{ListsText, BuildsText, FailsToBuild};
 ghost use Rattle.jptr_tasks.specs.Replacement.{AtEachMoment, IsDurable, IsGuarded, IsReplaced};
 ghost use Rattle.jptr_tasks.specs.Results.{PatchesBytesInLayout, FailsToPatch};
 ghost use Rattle.jptr_tasks.specs.declared.difference.PatchText.{PatchText};
 ghost use Rattle.jptr_tasks.specs.declared.task_error.TaskError.{TaskError};
-ghost use Rattle.jptr_tasks.specs.declared.task_error.TaskError.TheVariants.{BadLine, NotInPlace, NotJson, Memory};
+ghost use Rattle.jptr_tasks.specs.declared.task_error.TaskError.TheVariants.{BadLine, NotInPlace, PatchTooDeep, NotJson, Memory};
 ghost use Rattle.jptr_tasks.specs.declared.layout.Layout.{Layout};
 ghost use Rattle.jptr_tasks.specs.declared.line.LineTask.{LineTask};
 ghost use Rattle.jptr_tasks.specs.declared.replacement.Event.TheVariants.{Create, Look, Remove, Rename, Sync, SyncFolder, TakeRights, Write};
@@ -84,6 +87,23 @@ pub fn printed_difference_law()
     jsonptr_diff::laws::difference_law();
     test_comparison_law();
     comparing_patch_law();
+}
+
+/// States when the inverse of a patch is too deep to be printed. The keys of the patch document are sorted,
+/// as those of one that is read.
+///
+/// - A node that nests deeper than 125 is in the document before an operation, or in what a move has left of it.
+/// - The patch then has no inverse that is printed.
+pub fn inverse_depth_law()
+    ensures deep { (text : Text) (patch : Data)
+        → HasSortedKeys patch → FailsToInvert text patch PatchTooDeep
+        → (d : Data) × (os : List Operation) × (read text ≡ Some d) × IsPatch patch os
+        × HasDeepNodeBefore Numeric (nodes d) os 125 }
+    ensures not_both { (text : Text) (patch : Data) (u : PatchText)
+        → HasSortedKeys patch → TakesPatchBack text patch u → FailsToInvert text patch PatchTooDeep → ⊥ }
+{
+    patch_document_law();
+    jsonptr_patch_document::laws::inverse_depth_law();
 }
 
 /// States what `patch` does with the inverse of a patch, as texts.

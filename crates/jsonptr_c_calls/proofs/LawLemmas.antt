@@ -260,7 +260,7 @@ module _ (not_both : (s : Text) (e : ParseError) → IsPointer s → IsParseErro
   not_patched apart d t os e f (inl h) (inl k) = not_applied d t os e f h k
   not_patched apart d t os e f (inl h) (inr k) = inl (applied apart d k.0 t os e h k.1 k.2)
   not_patched apart d t os e f (inr h) (inl k) = inr (inl (applied apart d h.0 t os f k h.1 h.2))
-  not_patched apart d t os e f (inr h) (inr k) = same e f InverseTooDeep InverseTooDeep h.3.3 k.3.3 refl
+  not_patched apart d t os e f (inr h) (inr k) = same e f InverseTooDeep InverseTooDeep h.3.4 k.3.4 refl
 
   lacks_value : (t : List ℕ) (ts : List Text) (e f : CallError) → LacksValue t ts e → LacksValue t ts f → SameStatus e f
   lacks_value t ts e f (inl h) (inl k) = same e f (NotJson h.0) (NotJson k.0) h.2 k.2 refl

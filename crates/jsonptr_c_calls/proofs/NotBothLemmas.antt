@@ -14,17 +14,18 @@ use Rattle.serde_json.specs.Read.{max_depth, number_of, read}
 use Rattle.serde_json.specs.View.{view}
 use Rattle.serde_json.specs.Written.{has_float}
 use Rattle.serde_json.specs.declared.value.Value.{Value}
+use Rattle.serde_json.proofs.Nesting.{depth-read}
 use Rattle.serde_json.proofs.Texts.{tokens_from_order}
 use Rattle.jsonptr.specs.Assign.{AssignsValue, assign_offset_of, assign_position_of}
 use Rattle.jsonptr.specs.Documents.{IsDocument}
 use Rattle.jsonptr.specs.Grammar.{IsPointer}
-use Rattle.jsonptr.specs.Json.{nodes, FindsValue}
+use Rattle.jsonptr.specs.Json.{nodes, content, FindsValue, HasSortedKeys}
 use Rattle.jsonptr.specs.Node.{NodeMap}
 use Rattle.jsonptr.specs.ParseError.{IsParseErrorOf}
 use Rattle.jsonptr.specs.Resolve.{Refuses}
 use Rattle.jsonptr.specs.Text.{Text, esc, text}
 use Rattle.jsonptr.specs.Types.ParseError.{ParseError}
-use Rattle.jsonptr.proofs.Calling.{text_one, FindsValue_one, Names-root, Refuses-NamesNothing}
+use Rattle.jsonptr.proofs.Calling.{ascends_read, map_of-IsTree, map_of-finite, text_one, FindsValue_one, Names-root, Refuses-NamesNothing}
 use Rattle.jsonptr_tree.proofs.AssigningLemmas.{Assigns-LandsNowhere}
 use Rattle.jsonptr_in_text.specs.InText.{FindsInText}
 use Rattle.jsonptr_in_text.specs.declared.format.Format.{Format}
@@ -33,7 +34,10 @@ use Rattle.jsonptr_numbers.specs.Digits.{AreKept, KeepsDigits}
 use Rattle.jsonptr_numbers.specs.Kept.{IsKeptNumber, IsLost}
 use Rattle.jsonptr_numbers.specs.Lost.{Loses}
 use Rattle.jsonptr_numbers.specs.declared.lost.Lost.{Lost}
+use Rattle.jsonptr_patch.specs.Inverse.{TakesAllBackBy}
+use Rattle.jsonptr_patch.specs.Order.{OperationHasSortedKeys}
 use Rattle.jsonptr_patch.specs.Patching.{PatchesBy, RefusesPatchBy}
+use Rattle.jsonptr_patch.specs.declared.comparison.Comparison.{Comparison}
 use Rattle.jsonptr_patch.specs.declared.comparison.Comparison.TheVariants.{Numeric}
 use Rattle.jsonptr_patch.specs.declared.operation.Operation.{Operation}
 use Rattle.jsonptr_patch.specs.declared.operation.Operation.TheVariants.{Add, Remove, Replace, Move, Copy, Test}
@@ -41,7 +45,9 @@ use Rattle.jsonptr_patch.specs.declared.operation.PatchError.{PatchError}
 use Rattle.jsonptr_patch_document.specs.Document.{IsPatch, IsNoPatch}
 use Rattle.jsonptr_patch_document.specs.Same.{IsSameOperation, AreSameOperations}
 use Rattle.jsonptr_patch_document.specs.declared.error.PatchDocumentError.{PatchDocumentError}
+use Rattle.jsonptr_patch_document.specs.Writing.{document_of}
 use Rattle.jsonptr_patch_document.proofs.SameLemmas.{same_effects}
+use Rattle.jsonptr_patch_document.proofs.SortingLemmas.{patch_sorted}
 use Rattle.jsonptr_c_handle.specs.Handle.{Holds}
 use Rattle.jsonptr_c_handle.specs.declared.handle.Handle.{Handle}
 use Rattle.jsonptr_c_calls.specs.Depths.{HasFewTokens, StaysShallow, descent, descent_of, level_of, max_levels}
@@ -51,12 +57,12 @@ use Rattle.jsonptr_c_calls.specs.Failures.{FailsOnHandle, IsNoPointer, IsNoToken
 use Rattle.jsonptr_c_calls.specs.InTexts.{FindsAtPointerInText, FindsTextIn, IsNotPrintedFrom, LacksRoomForFloatIn, LacksValue}
 use Rattle.jsonptr_c_calls.specs.Locations.{IsNotLocated, IsNotPointedAt, LacksLocation, LacksPointerAt, LocatesInText, PointsAt}
 use Rattle.jsonptr_c_calls.specs.Nodes.{FindsNode}
-use Rattle.jsonptr_c_calls.specs.Patches.{AppliesText, AppliesWithInverse, IsDiffText, IsNotApplied, IsNotAppliedList, IsNotAppliedListWithInverse, IsNotAppliedWithInverse, IsNotCompared, IsNotPatchText, IsPatchText}
+use Rattle.jsonptr_c_calls.specs.Patches.{AppliesText, AppliesWithInverse, IsDiffText, IsNotApplied, IsNotAppliedList, IsNotAppliedListWithInverse, IsNotAppliedWithInverse, IsInverseText, IsNotCompared, IsNotPatchText, IsPatchText, LacksInverse}
 use Rattle.jsonptr_c_calls.specs.Pointers.{Extends, HasCount, HasToken, ParsesTo, Shortens}
 use Rattle.jsonptr_c_calls.specs.Values.{Changes, FindsAtPointer, FindsString, FindsTextOf, HoldsWith, IsJsonText, ReadsInto}
 use Rattle.jsonptr_c_calls.specs.declared.call_error.Argument.TheVariants as argument
 use Rattle.jsonptr_c_calls.specs.declared.call_error.CallError.{CallError}
-use Rattle.jsonptr_c_calls.specs.declared.call_error.CallError.TheVariants.{InverseTooDeep, NotLocated}
+use Rattle.jsonptr_c_calls.specs.declared.call_error.CallError.TheVariants.{NotLocated}
 use Rattle.jsonptr_c_calls.specs.declared.node.NodeInfo.{NodeInfo}
 use Rattle.jsonptr_c_calls.proofs.LawLemmas.{no_pointer-parses, tokens_one, no_read, extended, found, applied, found_in_text, value-found}
 
@@ -88,6 +94,12 @@ on_held d P v e holds (inr h) =
     let content : Some h.0 ≡ Some v = sym h.1.1 ∙ holds.1 in
     let value : h.0 ≡ v = cc in
     subst P value h.2
+
+one_held : (d : Handle) (v w : Value) → Holds d v → Holds d w → v ≡ w
+one_held d v w h k =
+    let content : Some v ≡ Some w = sym h.1 ∙ k.1 in
+    let value : v ≡ w = cc in
+    value
 
 -- ---- reading
 
@@ -348,7 +360,9 @@ module _
     (one_patch : (d : Data) (os ps : List Operation) → IsPatch d os → IsPatch d ps → AreSameOperations os ps)
     (no_patch : (d : Data) (os : List Operation) (e : PatchDocumentError) → IsPatch d os → IsNoPatch d e → ⊥)
     (apart : (n m : NodeMap) (os : List Operation) (e : PatchError) → IsDocument n → PatchesBy Numeric n os m → RefusesPatchBy Numeric n os e → ⊥)
-    (not_both : (s : Text) (e : ParseError) → IsPointer s → IsParseErrorOf s e → ⊥) where
+    (not_both : (s : Text) (e : ParseError) → IsPointer s → IsParseErrorOf s e → ⊥)
+    (same_back : (c : Comparison) (n : NodeMap) (os ps back : List Operation) → AreSameOperations os ps → TakesAllBackBy c n os back → TakesAllBackBy c n ps back)
+    (same_depth : (c : Comparison) (n : NodeMap) (os back others : List Operation) (k : ℕ) → IsDocument n → TakesAllBackBy c n os back → TakesAllBackBy c n os others → All OperationHasSortedKeys others → depth (document_of back) ≤ k + 2 → depth (document_of others) ≤ k + 2) where
   same_patch : (t : List ℕ) (os ps : List Operation) → IsPatchText t os → IsPatchText t ps → AreSameOperations os ps
   same_patch t os ps h k =
       let again : Some h.0 ≡ Some k.0 = sym h.1 ∙ k.1 in
@@ -374,16 +388,26 @@ module _
       let again = applies_again t (view is.0) (view is.1) h.0 is.4 h.2 in
       applied not_both apart (view is.0) (view is.1) t h.0 e (on_held document (λ v. IsNotAppliedList (view v) t h.0 e) is.0 e is.2 h.3) again.0 again.1
 
-  inverted : (format : Format) (t : List ℕ) (d n : Data) (os : List Operation) (room : ℕ) (e : CallError) → StaysShallow d os → PatchesBy Numeric (nodes d) os (nodes n) → IsNotAppliedListWithInverse format d t os room e → IsOutOfMemory e ⊎ ((e ≡ InverseTooDeep) ⊎ IsTooShort room e)
-  inverted format t d n os room e shallow made (inl (inl h)) = inl (applied not_both apart d n t os e h shallow made)
-  inverted format t d n os room e shallow made (inl (inr h)) = inr (inl h.3.3)
-  inverted format t d n os room e shallow made (inr h) = inr (inr (length h.1, h.5))
+  -- what takes the operations back is read, so it is not too deep
+  not_deep : (format : Format) (t out : List ℕ) (d n : Data) (os ps : List Operation) (e : CallError) → HasSortedKeys d → IsPatchText t os → IsInverseText format d os n out → IsPatchText t ps → LacksInverse d ps e → ⊥
+  not_deep format t out d n os ps e sorted patch inverse again lacks =
+      let back : TakesAllBackBy Numeric (nodes d) ps inverse.0 = same_back Numeric (nodes d) os ps inverse.0 (same_patch t os ps patch again) inverse.3 in
+      let values : All OperationHasSortedKeys lacks.0 = lacks.2 (patch_sorted again.0 ps (ascends_read t again.0 again.1) again.2) sorted in
+      let low : depth (document_of inverse.0) ≤ max_depth = depth-read out (document_of inverse.0) inverse.5 in
+      omega (arith, lacks.3, same_depth Numeric (nodes d) ps inverse.0 lacks.0 125 (map_of-IsTree (content d), map_of-finite (content d)) back lacks.1 values (omega (arith, low)))
 
-  pub not_inverted : (format : Format) (t : List ℕ) (document new : Handle) (out : List ℕ) (n : ℕ) (e : CallError) → IsUtf8 t → Changes document (λ d m. AppliesWithInverse format t d m (take n out)) new → IsNotPatchText t e ⊎ IsNotAppliedWithInverse format t document (length out) e → IsOutOfMemory e ⊎ ((e ≡ InverseTooDeep) ⊎ IsTooShort (length out) e)
-  not_inverted format t document new out n e u is (inl h) = inl (patch_read t is.4.0.0 e u is.4.0.1 h)
-  not_inverted format t document new out n e u is (inr h) =
-      let again = applies_again t (view is.0) (view is.1) h.0 is.4.0 h.2 in
-      inverted format t (view is.0) (view is.1) h.0 (length out) e again.0 again.1 (on_held document (λ v. IsNotAppliedListWithInverse format (view v) t h.0 (length out) e) is.0 e is.2 h.3)
+  inverted : (format : Format) (t out : List ℕ) (d n : Data) (ps : List Operation) (room : ℕ) (e : CallError) → HasSortedKeys d → IsPatchText t ps → AppliesWithInverse format t d n out → IsNotAppliedListWithInverse format d t ps room e → IsOutOfMemory e ⊎ IsTooShort room e
+  inverted format t out d n ps room e sorted patch is (inl (inl h)) =
+      let again = applies_again t d n ps is.0 patch in
+      inl (applied not_both apart d n t ps e h again.0 again.1)
+  inverted format t out d n ps room e sorted patch is (inl (inr h)) = absurd (not_deep format t out d n is.1.0 ps e sorted is.1.1 is.1.2 patch h.3)
+  inverted format t out d n ps room e sorted patch is (inr h) = inr (length h.1, h.5)
+
+  pub not_inverted : (format : Format) (t : List ℕ) (document new : Handle) (out : List ℕ) (n : ℕ) (e : CallError) → IsUtf8 t → HoldsWith document (λ v. HasSortedKeys (view v)) → Changes document (λ d m. AppliesWithInverse format t d m (take n out)) new → IsNotPatchText t e ⊎ IsNotAppliedWithInverse format t document (length out) e → IsOutOfMemory e ⊎ IsTooShort (length out) e
+  not_inverted format t document new out n e u sorted is (inl h) = inl (patch_read t is.4.0.0 e u is.4.0.1 h)
+  not_inverted format t document new out n e u sorted is (inr h) =
+      let one : sorted.0 ≡ is.0 = one_held document sorted.0 is.0 sorted.1 is.2 in
+      inverted format t (take n out) (view is.0) (view is.1) h.0 (length out) e (subst (λ (v : Value). HasSortedKeys (view v)) one sorted.2) h.2 is.4 (on_held document (λ v. IsNotAppliedListWithInverse format (view v) t h.0 (length out) e) is.0 e is.2 h.3)
 
 compared : (format : Format) (d n : Data) (room : ℕ) (e : CallError) → IsNotCompared format d n room e → IsOutOfMemory e ⊎ IsTooShort room e
 compared format d n room e (inl h) = inl h

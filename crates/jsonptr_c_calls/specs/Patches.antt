@@ -3,8 +3,10 @@ use Rattle.std.specs.Prelude.{◌≡◌, ◌⊎◌, ℕ, ◌<◌, All, IsUtf8, L
 use Rattle.serde_json.specs.Data.{Data, depth}
 use Rattle.serde_json.specs.Read.{max_depth, read}
 use Rattle.serde_json.specs.View.{view}
-use Rattle.jsonptr.specs.Json.{nodes}
+use Rattle.jsonptr.specs.Json.{nodes, HasSortedKeys}
 use Rattle.jsonptr.specs.Node.{NodeMap}
+use Rattle.jsonptr_patch.specs.Inverse.{TakesAllBackBy}
+use Rattle.jsonptr_patch.specs.Order.{OperationHasSortedKeys}
 use Rattle.jsonptr_patch.specs.Patching.{Patches, PatchesBy, RefusesPatchBy}
 use Rattle.jsonptr_patch.specs.declared.operation.Operation.{Operation}
 use Rattle.jsonptr_patch.specs.declared.operation.PatchError.{PatchError}
@@ -85,31 +87,34 @@ abbrev pub IsNotCompared : Format → Data → Data → ℕ → CallError → Ty
 IsNotCompared format d n room e =
     IsOutOfMemory e ⊎ ((text : List ℕ) × IsDiffText format d n text × LacksRoom (length text) room e)
 
--- `IsInverseText format n d text`: `text` reads as a patch document whose operations turn the document `n` back into `d`.
--- It is the text of their document, in this format
-abbrev pub IsInverseText : Format → Data → Data → List ℕ → Type 0
-IsInverseText format n d text =
+-- `IsInverseText format d os n text`: `text` is that of the document of operations that take back the operations `os` on the
+-- document `d`, in this format. It reads as that document, and they turn the document `n` back into `d`
+abbrev pub IsInverseText : Format → Data → List Operation → Data → List ℕ → Type 0
+IsInverseText format d os n text =
     (inverse : List Operation) × IsPatchText text inverse × Patches (nodes n) inverse (nodes d)
-    × IsJsonText format (document_of inverse) text
+    × TakesAllBackBy Numeric (nodes d) os inverse
+    × IsJsonText format (document_of inverse) text × (read text ≡ Some (document_of inverse))
 
 -- `AppliesWithInverse format text d n out`: the operations of the patch document `text` turn the document `d` into `n`, and
 -- `out` is the text of a patch document that takes them back
 abbrev pub AppliesWithInverse : Format → List ℕ → Data → Data → List ℕ → Type 0
-AppliesWithInverse format text d n out = AppliesText text d n × IsInverseText format n d out
+AppliesWithInverse format text d n out =
+    AppliesText text d n × ((os : List Operation) × IsPatchText text os × IsInverseText format d os n out)
 
--- `LacksInverse d n e`: operations that turn the document `n` back into `d` nest so deep that their text would not be read,
--- and `e` reports that
-abbrev pub LacksInverse : Data → Data → CallError → Type 0
-LacksInverse d n e =
-    (inverse : List Operation) × Patches (nodes n) inverse (nodes d) × (max_depth < depth (document_of inverse))
-    × (e ≡ InverseTooDeep)
+-- `LacksInverse d os e`: the document of operations that take back the operations `os` on the document `d` nests so deep that
+-- its text would not be read, and `e` reports that. Their values have sorted keys if `d` and those of `os` have
+abbrev pub LacksInverse : Data → List Operation → CallError → Type 0
+LacksInverse d os e =
+    (inverse : List Operation) × TakesAllBackBy Numeric (nodes d) os inverse
+    × (All OperationHasSortedKeys os → HasSortedKeys d → All OperationHasSortedKeys inverse)
+    × (max_depth < depth (document_of inverse)) × (e ≡ InverseTooDeep)
 
 -- `IsNotPatched d text os e`: the operations `os` of the patch document `text` are not applied to the document `d`, or what
 -- takes them back would not be read, and `e` reports why
 abbrev pub IsNotPatched : Data → List ℕ → List Operation → CallError → Type 0
 IsNotPatched d text os e =
     IsNotAppliedList d text os e
-    ⊎ ((n : Data) × StaysShallow d os × PatchesBy Numeric (nodes d) os (nodes n) × LacksInverse d n e)
+    ⊎ ((n : Data) × StaysShallow d os × PatchesBy Numeric (nodes d) os (nodes n) × LacksInverse d os e)
 
 -- `IsNotAppliedListWithInverse format d text os room e`: those operations are not applied, or the text of what takes them
 -- back does not come to `room` bytes, and `e` reports why
@@ -117,7 +122,7 @@ abbrev pub IsNotAppliedListWithInverse : Format → Data → List ℕ → List O
 IsNotAppliedListWithInverse format d text os room e =
     IsNotPatched d text os e
     ⊎ ((n : Data) × (out : List ℕ) × StaysShallow d os × PatchesBy Numeric (nodes d) os (nodes n)
-    × IsInverseText format n d out × LacksRoom (length out) room e)
+    × IsInverseText format d os n out × LacksRoom (length out) room e)
 
 -- `IsNotAppliedWithInverse format text d room e`: the same of the document in the handle `d`
 abbrev pub IsNotAppliedWithInverse : Format → List ℕ → Handle → ℕ → CallError → Type 0

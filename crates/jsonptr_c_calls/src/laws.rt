@@ -4,6 +4,7 @@ ghost use Rattle.serde_json.specs.Data.{Data};
 ghost use Rattle.serde_json.specs.Read.{read as read_text};
 ghost use Rattle.serde_json.specs.View.{view};
 ghost use Rattle.serde_json.specs.declared.value.Value.{Value as JsonValue};
+ghost use Rattle.jsonptr.specs.Json.{HasSortedKeys};
 ghost use Rattle.jsonptr.specs.Text.{Text, esc};
 ghost use Rattle.jsonptr_c_handle.specs.declared.handle.Handle.{Handle};
 ghost use Rattle.jsonptr_patch.specs.declared.operation.Operation.{Operation};
@@ -21,14 +22,14 @@ ghost use Rattle.jsonptr_c_calls.specs.Pointers.{Extends, HasCount, HasToken, Sh
 ghost use Rattle.jsonptr_c_calls.specs.ErrorNumbers.{record_of};
 ghost use Rattle.jsonptr_c_calls.specs.Values.{Changes, FindsString, FindsTextOf, HoldsWith, ReadsInto};
 ghost use Rattle.jsonptr_c_calls.specs.declared.call_error.CallError.{CallError};
-ghost use Rattle.jsonptr_c_calls.specs.declared.call_error.CallError.TheVariants.{InverseTooDeep, NotLocated};
+ghost use Rattle.jsonptr_c_calls.specs.declared.call_error.CallError.TheVariants.{NotLocated};
 ghost use Rattle.jsonptr_c_calls.specs.declared.error_numbers.ErrorRecord.{ErrorRecord};
 ghost use Rattle.jsonptr_c_calls.specs.declared.node.NodeInfo.{NodeInfo};
 ghost use Rattle.jsonptr_in_text.specs.declared.format.Format.{Format};
 
 use jsonptr::laws::parse_law;
 use jsonptr_patch::laws::patch::comparing_patch_law;
-use jsonptr_patch_document::laws::patch_document_law;
+use jsonptr_patch_document::laws::{inverse_depth_law, patch_document_law};
 
 /// States that the message of the record of an error is the text of the error, and that no message is
 /// longer than 200 bytes, also that of a record which is not of an error.
@@ -95,12 +96,12 @@ pub fn one_error_law()
 /// errors that a clause leaves open.
 ///
 /// Each clause takes what the call states of a success and of an error, for the same arguments and a
-/// buffer of the same length. `count` and `pop` allocate nothing, and have no error then. Left open is:
+/// buffer of the same length. `count` and `pop` allocate nothing, and have no error then. The document of
+/// `patch_with_inverse` has sorted keys, as each that is read from a text. Left open is:
 ///
 /// - `NoRoom` of `get` and `resolve` for a value that contains a float, since the text of a float is not
-///   fixed; and of `patch_with_inverse` and `diff`, since it is not fixed which inverse and which
-///   difference they make;
-/// - `InverseTooDeep` of `patch_with_inverse`, for the same reason;
+///   fixed; of `patch_with_inverse`, since the texts of its values are not fixed; and of `diff`, since it is
+///   not fixed which difference it makes;
 /// - `NotExact` of `parse_exactly` for a number that is read as a float;
 /// - `NotExact` and `NoRoom` of `lost_number` for the number that is lost. If each number keeps its
 ///   digits (`none_lost`), it is read as a float;
@@ -155,9 +156,10 @@ pub fn not_both_law()
         → IsNotPatchText text e ⊎ IsNotApplied text old e → IsOutOfMemory e }
     ensures patch_with_inverse { (format : Format) (text : List ℕ) (old new : Handle) (out : List ℕ)
         (n : ℕ) (e : CallError)
-        → IsUtf8 text → Changes old (λ d m. AppliesWithInverse format text d m (take n out)) new
+        → IsUtf8 text → HoldsWith old (λ v. HasSortedKeys (view v))
+        → Changes old (λ d m. AppliesWithInverse format text d m (take n out)) new
         → IsNotPatchText text e ⊎ IsNotAppliedWithInverse format text old (length out) e
-        → IsOutOfMemory e ⊎ ((e ≡ InverseTooDeep) ⊎ IsTooShort (length out) e) }
+        → IsOutOfMemory e ⊎ IsTooShort (length out) e }
     ensures diff { (format : Format) (old new : Handle) (out : List ℕ) (n : ℕ) (e : CallError)
         → HoldsWith old (λ v. HoldsWith new (λ w. IsDiffText format (view v) (view w) (take n out)))
         → FailsOnHandle old (λ v. FailsOnHandle new
@@ -186,5 +188,6 @@ pub fn not_both_law()
 {
     parse_law();
     patch_document_law();
+    inverse_depth_law();
     comparing_patch_law();
 }

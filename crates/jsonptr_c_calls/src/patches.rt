@@ -1,7 +1,7 @@
 //! JSON Patch documents (RFC 6902) as bytes.
 ghost use Rattle.std.specs.Prelude.{◌≡◌, ◌≤◌, ◌⊎◌, ◌<◌, IfErr, IfOk, IsUtf8, OnErr, OnOk, All, length, take};
 ghost use Rattle.serde_json.specs.Data.{depth};
-ghost use Rattle.serde_json.specs.Read.{max_depth};
+ghost use Rattle.serde_json.specs.Read.{max_depth, read};
 ghost use Rattle.serde_json.specs.View.{view};
 ghost use Rattle.jsonptr.specs.Json.{nodes, HasSortedKeys};
 ghost use Rattle.jsonptr_patch.specs.Order.{OperationHasSortedKeys};
@@ -109,7 +109,7 @@ pub struct Patched {
 ///
 /// - Those of [`apply_all`].
 /// - [`CallError::InverseTooDeep`] if the patch document that takes them back nests deeper than 127, so
-///   that its text would not be read. That it is the one that was made is tested.
+///   that its text would not be read.
 ///
 /// # Conditions
 ///
@@ -129,7 +129,7 @@ pub fn patched_copy(
     ensures sorted { IfOk result (λ made. All OperationHasSortedKeys patch.items
         → HasSortedKeys (view document.old) → HasSortedKeys (view made.document)) }
     ensures inverse { IfOk result (λ made.
-        IsInverseText format (view made.document) (view document.old) made.inverse.items) }
+        IsInverseText format (view document.old) patch.items (view made.document) made.inverse.items) }
     ensures refused { IfErr result (IsNotPatched (view document.old) text.now patch.items) }
     ensures unchanged { view document.new ≡ view document.old }
 {
@@ -182,7 +182,8 @@ fn inverse_text(
     format: Format,
 ) -> Result<Vec<u8>, CallError>
     ensures text { IfOk result (λ text. IsPatchText text.items inverse.now.items
-        × IsJsonText format (document_of inverse.now.items) text.items) }
+        × IsJsonText format (document_of inverse.now.items) text.items
+        × (read text.items ≡ Some (document_of inverse.now.items))) }
     ensures refused { IfErr result (λ e. IsOutOfMemory e
         ⊎ ((max_depth < depth (document_of inverse.now.items)) × (e ≡ InverseTooDeep))) }
 {

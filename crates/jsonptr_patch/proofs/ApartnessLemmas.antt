@@ -89,8 +89,11 @@ only : (p y : List Text) (k : ℕ) → k < 1 → slice_index_or (p ∷ []) k y �
 only p y zero low is = is
 only p y (suc k) low is = absurd (omega (arith, low))
 
-alone : (n : NodeMap) (xs ys : List Text) → Diverges n xs ys → AllDiverge n (xs ∷ []) (ys ∷ [])
+pub alone : (n : NodeMap) (xs ys : List Text) → Diverges n xs ys → AllDiverge n (xs ∷ []) (ys ∷ [])
 alone n xs ys d zs ws i j = subst (λ (ts : List Text). Diverges n ts ws) (only xs zs i.0 i.1 i.2) (subst (λ (ts : List Text). Diverges n xs ts) (only ys ws j.0 j.1 j.2) d)
+
+pub both_alone : (n : NodeMap) (xs ys : List Text) → AllDiverge n (xs ∷ []) (ys ∷ []) → Diverges n xs ys
+both_alone n xs ys h = h xs ys (first_in xs []) (first_in ys [])
 
 forked : (n : NodeMap) (xs ys : List Text) → (d : Diverges n xs ys) → Forks xs ys d.front
 forked n xs ys d = record { here = d.here; more = d.more; there = d.there; others = d.others; first = d.first; second = d.second; differ = d.differ }
@@ -100,13 +103,13 @@ fork_decides n xs ys common f = (λ o. alone n xs ys (fork_diverges n xs ys comm
   where
     back : AllDiverge n (xs ∷ []) (ys ∷ []) → IsObjectAt n common
     back h =
-        let d : Diverges n xs ys = h xs ys (first_in xs []) (first_in ys []) in
+        let d : Diverges n xs ys = both_alone n xs ys h in
         let same : d.front ≡ common = one_fork xs ys d.front common (forked n xs ys d) f in
         (d.path, subst (λ (ts : List Text). Names n ts d.path) same d.named, d.object)
 
 pub no_fork : (n : NodeMap) (xs ys : List Text) → ((front : List Text) → Forks xs ys front → ⊥) → AllDiverge n (xs ∷ []) (ys ∷ []) → ⊥
 no_fork n xs ys none h =
-    let d : Diverges n xs ys = h xs ys (first_in xs []) (first_in ys []) in
+    let d : Diverges n xs ys = both_alone n xs ys h in
     none d.front (forked n xs ys d)
 
 -- several pointers

@@ -13,22 +13,21 @@ use Rattle.jsonptr_tree.proofs.NodeLemmas.{Names-pop, Names_one_path}
 use Rattle.jsonptr_tree.proofs.RemovingLemmas.{Deletes_child}
 use Rattle.jsonptr_patch.specs.Apart.{Diverges, AllDiverge, pointers}
 use Rattle.jsonptr.specs.Delete.{NamesNothing}
-use Rattle.jsonptr_patch.specs.Inverse.{HasObject, TakesAddBack, IsReverse, TakesMoveBack, TakesBack}
+use Rattle.jsonptr_patch.specs.Inverse.{HasObject, TakesAddBack, IsReverse, HasNoReverse, TakesMoveBack, TakesBack}
 use Rattle.jsonptr_patch.specs.Operating.{IsProperPrefix, Takes, RestoresAt, RefusesAdd, RefusesMove, RefusesCopy, AppliesBy, RefusesOperationBy}
 use Rattle.jsonptr_patch.specs.Patching.{Patches}
-use Rattle.jsonptr_patch.specs.PrivateInverse.{AppendsBack, TakesAllBackFrom, IsPlaceBack, RefusesChange}
+use Rattle.jsonptr_patch.specs.PrivateInverse.{AppendsBack, AppendsBackOf, IsPlaceBack, RefusesChange}
 use Rattle.jsonptr_patch.specs.PrivateLater.{paths_of, removals, IsPending, TakesPlace, Frees}
 use Rattle.jsonptr_patch.specs.declared.later.Later.{Later}
 use Rattle.jsonptr_patch.specs.declared.operation.Operation.{Operation}
 use Rattle.jsonptr_patch.specs.declared.operation.PatchError.{PatchError}
 use Rattle.jsonptr_patch.specs.declared.operation.Operation.TheVariants.{Add, Remove, Replace, Move, Copy, Test}
 use Rattle.jsonptr_patch.proofs.ApartLemmas.{after_applied}
-use Rattle.jsonptr_patch.proofs.InverseLemmas.{gone_nothing, taken_back, all_back}
+use Rattle.jsonptr_patch.proofs.InverseLemmas.{gone_nothing}
 use Rattle.jsonptr_patch.proofs.LaterLemmas.{first_in, second_in, removed_after, seen_later, diverges_later}
 use Rattle.jsonptr_patch.proofs.LevelLemmas.{local_take}
 use Rattle.jsonptr_patch.proofs.MemberLemmas.{same_next, diverges_turned, diverges_after, diverges_way}
-use Rattle.jsonptr_patch.proofs.OneLemmas.{takes_tree}
-use Rattle.jsonptr_patch.proofs.RefusalLemmas.{IsSeen, cases_prefix, no_end, seen_refuses_add, seen_finds, seen_has_object, seen_is_element, seen_names_nothing, seen_after}
+use Rattle.jsonptr_patch.proofs.RefusalLemmas.{IsSeen, cases_prefix, no_end, seen_refuses_add, seen_finds, seen_has_object, seen_is_element, seen_names_nothing, seen_diverges_nowhere, seen_after}
 use Rattle.jsonptr_patch.proofs.RestoringLemmas.{cases_token}
 use Rattle.jsonptr_patch.proofs.WaitingLemmas.{tree_later}
 use Rattle.jsonptr_patch.specs.declared.comparison.Comparison.{Comparison}
@@ -59,6 +58,16 @@ reverse_later d n from path (Move f p) back ls h a r = absurd r
 reverse_later d n from path (Copy f p) back ls h a r = absurd r
 reverse_later d n from path (Test p value) back ls h a r = absurd r
 
+no_reverse_later : (d n : NodeMap) (from path : List Text) (o : Operation) (ls : List Later) → AllDiverge d (from ∷ path ∷ []) (paths_of ls) → Patches d (removals ls) n → HasNoReverse d from path o → HasNoReverse n from path o
+no_reverse_later d n from path (Add p value) ls h a none back r = absurd r
+no_reverse_later d n from path (Remove p) ls h a none back r = none back r
+no_reverse_later d n from path (Replace p value) ls h a none back r =
+    let nowhere : Diverges d from path → ⊥ = λ w. none (Move p from ∷ Add p value ∷ []) (refl, w) in
+    seen_later (λ n ts. Diverges n from ts → ⊥) (seen_diverges_nowhere from) d n path (from ∷ path ∷ []) ls (second_in from path) h nowhere a r.1
+no_reverse_later d n from path (Move f p) ls h a none back r = absurd r
+no_reverse_later d n from path (Copy f p) ls h a none back r = absurd r
+no_reverse_later d n from path (Test p value) ls h a none back r = absurd r
+
 restores_later : (d n : NodeMap) (path : List Text) (o : Operation) (xss : List (List Text)) (ls : List Later) → Contains xss path → AllDiverge d xss (paths_of ls) → Patches d (removals ls) n → RestoresAt d path o → RestoresAt n path o
 restores_later d n path o xss ls at h a r = (r.0, r.1, seen_later (λ n ts. Finds n ts (nodes (view r.0))) (seen_finds (nodes (view r.0))) d n path xss ls at h r.2 a)
 
@@ -77,7 +86,7 @@ back_later d n (Move from path) back ls h a b =
       seen_later (λ n ts. TakesAddBack n ts b.0) (seen_takes_add_back b.0) b.2 r.0 path xss ls (second_in from path) still b.4 r.2,
       ⊎_elim
           (λ (q : IsReverse d from path b.0 back). inl (reverse_later d n from path b.0 back ls h a q))
-          (λ (q : (p : Operation) × (back ≡ b.0 ∷ p ∷ []) × RestoresAt d from p). inr (q.0, q.1, restores_later d n from q.0 xss ls (first_in from (path ∷ [])) h a q.2))
+          (λ (q : HasNoReverse d from path b.0 × (p : Operation) × (back ≡ b.0 ∷ p ∷ []) × RestoresAt d from p). inr (no_reverse_later d n from path b.0 ls h a q.0, q.1, q.2, restores_later d n from q.1 xss ls (first_in from (path ∷ [])) h a q.3))
           b.5,
     )
 back_later d n (Copy from path) back ls h a b = (b.0, b.1, seen_later (λ n ts. TakesAddBack n ts b.0) (seen_takes_add_back b.0) d n path (from ∷ path ∷ []) ls (second_in from path) h b.2 a)
@@ -93,10 +102,8 @@ change_refused by n i (Copy from path) e r = r
 change_refused by n i (Test path value) e r = absurd r
 
 -- one operation, and what takes it back
-pub later_back : (by : Comparison) (c : Value) (n m : NodeMap) (o : Operation) (back os qs : List Operation) (ls : List Later) → AllDiverge (nodes (view c)) (pointers o) (paths_of ls) → TakesBack (nodes (view c)) o back → AppendsBack os back qs → IsPending (nodes (view c)) ls n → AppliesBy by n o m → TakesAllBackFrom m qs n os
-later_back by c n m o back os qs ls h b appended p a =
-    let tree : IsTree n = tree_later (nodes (view c)) n ls (map_of-IsTree (content (view c))) p.removed in
-    all_back n m os back qs (taken_back by n m o back tree a (back_later (nodes (view c)) n o back ls h p.removed b)) appended
+pub later_back : (c : Value) (n : NodeMap) (o : Operation) (back os qs : List Operation) (ls : List Later) → AllDiverge (nodes (view c)) (pointers o) (paths_of ls) → TakesBack (nodes (view c)) o back → AppendsBack os back qs → IsPending (nodes (view c)) ls n → AppendsBackOf n o os qs
+later_back c n o back os qs ls h b appended p = (back, back_later (nodes (view c)) n o back ls h p.removed b, appended)
 
 -- a value can be removed
 
@@ -160,8 +167,17 @@ way_replaced n from path place again to value is same d b = inl (ap₂ (λ (ts u
 pub move_reversed : (n : NodeMap) (from path : List Text) (o : Operation) (place to : List Text) → o ≡ Remove place → (IsProperPrefix place from → ⊥) → to ≡ from → TakesMoveBack n from path o (Move place to ∷ [])
 move_reversed n from path o place to is apart same = subst (λ (p : Operation). TakesMoveBack n from path p (Move place to ∷ [])) (sym is) (inl (ap (λ (ts : List Text). Move place ts ∷ []) same, apart))
 
-pub both_reversed : (n : NodeMap) (from path : List Text) (o again : Operation) → RestoresAt n from again → TakesMoveBack n from path o (o ∷ again ∷ [])
-both_reversed n from path o again restores = inr (again, refl, restores)
+pub both_reversed : (n : NodeMap) (from path : List Text) (o again : Operation) → HasNoReverse n from path o → RestoresAt n from again → TakesMoveBack n from path o (o ∷ again ∷ [])
+both_reversed n from path o again none restores = inr (none, again, refl, restores)
+
+-- a value that is above its source, or that replaced one without diverging from its source, is not moved back
+pub not_reversed : (n : NodeMap) (from path : List Text) (o : Operation) → (Diverges n from path → ⊥) → ((place : List Text) → o ≡ Remove place → IsProperPrefix place from) → HasNoReverse n from path o
+not_reversed n from path (Add p value) nowhere above back r = absurd r
+not_reversed n from path (Remove p) nowhere above back r = r.1 (above p refl)
+not_reversed n from path (Replace p value) nowhere above back r = nowhere r.1
+not_reversed n from path (Move f p) nowhere above back r = absurd r
+not_reversed n from path (Copy f p) nowhere above back r = absurd r
+not_reversed n from path (Test p value) nowhere above back r = absurd r
 
 -- the same for the pointers of an operation
 
@@ -198,8 +214,7 @@ place_back by k n v m (Move from path) tokens back tree t h p is a =
 place_back by k n v m (Copy from path) tokens back tree t h p is a = (Remove path, is, object_back k n v path tokens p.0 tree t h)
 place_back by k n v m (Test path value) tokens back tree t h p is a = absurd p
 
-pub freed_back : (by : Comparison) (c : Value) (k n m : NodeMap) (o : Operation) (back os qs : List Operation) (ls : List Later) → IsPending (nodes (view c)) ls k → Frees k n o → IsPlaceBack o back → AppendsBack os back qs → AppliesBy by n o m → TakesAllBackFrom m qs n os
+pub freed_back : (by : Comparison) (c : Value) (k n m : NodeMap) (o : Operation) (back os qs : List Operation) (ls : List Later) → IsPending (nodes (view c)) ls k → Frees k n o → IsPlaceBack o back → AppendsBack os back qs → AppliesBy by n o m → AppendsBackOf n o os qs
 freed_back by c k n m o back os qs ls p f is appended a =
     let tree : IsTree k = tree_later (nodes (view c)) k ls (map_of-IsTree (content (view c))) p.removed in
-    let tree_n : IsTree n = (takes_tree k f.tokens f.value n tree f.taken).1 in
-    all_back n m os back qs (taken_back by n m o back tree_n a (place_back by k n f.value m o f.tokens back tree f.taken f.object f.place is a)) appended
+    (back, place_back by k n f.value m o f.tokens back tree f.taken f.object f.place is a, appended)

@@ -11,7 +11,6 @@ use Rattle.jsonptr.specs.Text.{Text, dec}
 use Rattle.jsonptr.specs.Resolve.{PutsAt}
 use Rattle.jsonptr.specs.Delete.{NamesNothing}
 use Rattle.jsonptr.specs.Node.{Step, key, place, Path, Label, an_object, an_array, NodeMap, sub, NamesStep, Names, IsTree}
-use Rattle.jsonptr.specs.Documents.{IsDocument}
 use Rattle.jsonptr.specs.Following.{Finds}
 use Rattle.jsonptr.specs.Json.{nodes, content}
 use Rattle.jsonptr.specs.Put.{GoesThrough, same_step, rest_after, put}
@@ -26,18 +25,18 @@ use Rattle.jsonptr_journal.specs.declared.location.Location.{Location}
 use Rattle.jsonptr_journal.specs.declared.addition.Target.TheVariants as target
 use Rattle.jsonptr_patch.specs.Inserting.{with_place}
 use Rattle.jsonptr_patch.specs.Adding.{AddsUnder, Adds}
-use Rattle.jsonptr_patch.specs.Inverse.{HasObject, IsElementAt, TakesAddBack, IsReverse, TakesBack, TakesAllBack}
+use Rattle.jsonptr_patch.specs.Inverse.{HasObject, IsElementAt, TakesAddBack, IsReverse, HasNoReverse, TakesBack, TakesAllBackBy}
 use Rattle.jsonptr_patch.specs.Apart.{Diverges}
 use Rattle.jsonptr_patch.specs.Operating.{Takes, Moves, Applies, RestoresAt, AppliesBy}
-use Rattle.jsonptr_patch.specs.Patching.{Patches}
+use Rattle.jsonptr_patch.specs.Patching.{Patches, PatchesBy}
 use Rattle.jsonptr_patch.specs.PrivateAdding.{IsPlace}
-use Rattle.jsonptr_patch.specs.PrivateInverse.{AppendsBack, TakesAllBackFrom}
+use Rattle.jsonptr_patch.specs.PrivateInverse.{AppendsBack}
 use Rattle.jsonptr_patch.specs.declared.operation.Operation.{Operation}
 use Rattle.jsonptr_patch.specs.declared.operation.Operation.TheVariants.{Add, Remove, Replace, Move, Copy, Test}
 use Rattle.jsonptr_patch.proofs.InsertingLemmas.{with_place-same, with_place-root, without-with}
 use Rattle.jsonptr_patch.proofs.LevelLemmas.{local_take, local_add}
 use Rattle.jsonptr_patch.proofs.MemberLemmas.{diverges_turned, diverges_after, diverges_way, local_swap}
-use Rattle.jsonptr_patch.proofs.OneLemmas.{adds_one, takes_tree}
+use Rattle.jsonptr_patch.proofs.OneLemmas.{adds_one, takes_tree, applies_one, applies_tree}
 use Rattle.jsonptr_patch.proofs.PartLemmas.{restoring}
 use Rattle.jsonptr_patch.proofs.PatchLemmas.{patches_both}
 use Rattle.jsonptr_patch.proofs.RestoringLemmas.{restored}
@@ -358,10 +357,10 @@ taken_back by n m (Move from path) back tree a b =
     let way : TakesAddBack a.left path b.0 = subst (λ (z : NodeMap). TakesAddBack z path b.0) left b.4 in
     ⊎_elim
     (λ (r : IsReverse n from path b.0 back). reversed n a.left m a.node from path b.0 back tree_left root a.taken a.added way r)
-    (λ (r : (p : Operation) × (back ≡ b.0 ∷ p ∷ []) × RestoresAt n from p).
+    (λ (r : HasNoReverse n from path b.0 × (p : Operation) × (back ≡ b.0 ∷ p ∷ []) × RestoresAt n from p).
     let first : Applies m b.0 a.left = adds_back a.left m a.node path b.0 tree_left root a.added way in
-    let second : Applies a.left r.0 n = restoring n a.left from r.0 r.2 a.taken.left in
-    subst (λ (os : List Operation). Patches m os n) (sym r.1) (a.left, first, (n, second, refl)))
+    let second : Applies a.left r.1 n = restoring n a.left from r.1 r.3 a.taken.left in
+    subst (λ (os : List Operation). Patches m os n) (sym r.2) (a.left, first, (n, second, refl)))
     b.5
 taken_back by n m (Copy from path) back tree a b =
     let root : IsSome (a.node []) = subst (λ (v : NodeMap). IsSome (v [])) (sym a.found.below) (subst (λ (l : Option Label). IsSome l) (sym (sub-root n a.found.path)) (Names-here n from a.found.path a.found.named)) in
@@ -369,13 +368,24 @@ taken_back by n m (Copy from path) back tree a b =
 taken_back by n m (Test path value) back tree a b = subst (λ (os : List Operation). Patches m os n) (sym b) (sym a.1)
 
 -- what takes a list of operations back does
-pub all_taken_back : ((n m : NodeMap) (o : Operation) → IsDocument n → Applies n o m → IsDocument m) → ((n m l : NodeMap) (o : Operation) → IsTree n → Applies n o m → Applies n o l → m ≡ l) → (n m : NodeMap) (os back : List Operation) → IsDocument n → Patches n os m → TakesAllBack n os back → Patches m back n
-all_taken_back document one n m [] back doc a b = subst (λ (os : List Operation). Patches m os n) (sym b) (sym a)
-all_taken_back document one n m (o ∷ os) back doc a b =
-    let same : a.0 ≡ b.0 = one n a.0 b.0 o doc.0 a.1 b.3 in
-    let rest : Patches m b.2 a.0 = all_taken_back document one a.0 m os b.2 (document n a.0 o doc a.1) a.2 (subst (λ (z : NodeMap). TakesAllBack z os b.2) (sym same) b.5) in
-    let first : Patches a.0 b.1 n = taken_back Strict n a.0 o b.1 doc.0 a.1 b.4 in
+pub all_taken_back : (c : Comparison) (n m : NodeMap) (os back : List Operation) → IsTree n → PatchesBy c n os m → TakesAllBackBy c n os back → Patches m back n
+all_taken_back c n m [] back tree a b = subst (λ (os : List Operation). Patches m os n) (sym b) (sym a)
+all_taken_back c n m (o ∷ os) back tree a b =
+    let same : a.0 ≡ b.0 = applies_one c n a.0 b.0 o tree a.1 b.3 in
+    let rest : Patches m b.2 a.0 = all_taken_back c a.0 m os b.2 (applies_tree c n a.0 o tree a.1) a.2 (subst (λ (z : NodeMap). TakesAllBackBy c z os b.2) (sym same) b.5) in
+    let first : Patches a.0 b.1 n = taken_back c n a.0 o b.1 tree a.1 b.4 in
     subst (λ (l : List Operation). Patches m l n) (sym b.6) (patches_both Strict m a.0 n b.2 b.1 rest first)
+
+-- and one operation more
+pub push_back : (c : Comparison) (n m l : NodeMap) (os back : List Operation) (o : Operation) (more : List Operation) → IsTree n → PatchesBy c n os m → AppliesBy c m o l → TakesAllBackBy c n os back → TakesBack m o more → TakesAllBackBy c n (os ++ o ∷ []) (more ++ back)
+push_back c n m l [] back o more tree a h b t =
+    let first : AppliesBy c n o l = subst (λ (z : NodeMap). AppliesBy c z o l) a h in
+    let taken : TakesBack n o more = subst (λ (z : NodeMap). TakesBack z o more) a t in
+    (l, more, [], first, taken, refl, ap (λ (ps : List Operation). more ++ ps) b ∙ append-nil more)
+push_back c n m l (p ∷ os) back o more tree a h b t =
+    let same : a.0 ≡ b.0 = applies_one c n a.0 b.0 p tree a.1 b.3 in
+    let rest : TakesAllBackBy c b.0 (os ++ o ∷ []) (more ++ b.2) = push_back c b.0 m l os b.2 o more (applies_tree c n b.0 p tree b.3) (subst (λ (z : NodeMap). PatchesBy c z os m) same a.2) h b.5 t in
+    (b.0, b.1, more ++ b.2, b.3, b.4, rest, ap (λ (ps : List Operation). more ++ ps) b.6 ∙ sym (append_assoc more b.2 b.1))
 
 -- operations that take changes back, the last one first
 
@@ -388,10 +398,10 @@ two_back os ps o p is = is ∙ append_assoc os (p ∷ []) (o ∷ [])
 pub none_back : (os ps : List Operation) → ps ≡ os → AppendsBack os [] ps
 none_back os ps is = is ∙ sym (append-nil os)
 
-pub all_back : (n m : NodeMap) (os back ps : List Operation) → Patches m back n → AppendsBack os back ps → TakesAllBackFrom m ps n os
-all_back n m os back ps a is k h =
-    let whole : reverse ps ≡ back ++ reverse os = ap (λ (l : List Operation). reverse l) is ∙ reverse-append os (reverse back) ∙ ap (λ (l : List Operation). l ++ reverse os) (reverse-reverse back) in
-    subst (λ (l : List Operation). Patches m l k) (sym whole) (patches_both Strict m n k back (reverse os) a h)
+pub pushed_back : (c : Comparison) (n m l : NodeMap) (os ps qs back : List Operation) (o : Operation) → IsTree n → PatchesBy c n os m → AppliesBy c m o l → TakesAllBackBy c n os (reverse ps) → TakesBack m o back → AppendsBack ps back qs → TakesAllBackBy c n (os ++ o ∷ []) (reverse qs)
+pushed_back c n m l os ps qs back o tree a h b t is =
+    let whole : reverse qs ≡ back ++ reverse ps = ap (λ (r : List Operation). reverse r) is ∙ reverse-append ps (reverse back) ∙ ap (λ (r : List Operation). r ++ reverse ps) (reverse-reverse back) in
+    subst (λ (r : List Operation). TakesAllBackBy c n (os ++ o ∷ []) r) (sym whole) (push_back c n m l os (reverse ps) o back tree a h b t)
 
 -- what place says of the parent
 

@@ -26,3 +26,4 @@ mod BackOrderLemmas
 pub mod ApartnessLemmas
 pub mod ComparisonLemmas
 pub mod ReplacingLemmas
+pub mod OneInverseLemmas

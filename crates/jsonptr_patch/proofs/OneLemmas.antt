@@ -57,7 +57,7 @@ last_one (a ∷ f) (b ∷ g) x y e =
 
 -- indices
 
-place_one : (len : ℕ) (x : Text) (i j : ℕ) → MeansPlace len x i → MeansPlace len x j → i ≡ j
+pub place_one : (len : ℕ) (x : Text) (i j : ℕ) → MeansPlace len x i → MeansPlace len x j → i ≡ j
 place_one len x i j h k = go h.1 k.1
   where
     go : (x ≡ dec i) ⊎ ((x ≡ codes "-") × (i ≡ len)) → (x ≡ dec j) ⊎ ((x ≡ codes "-") × (j ≡ len)) → i ≡ j

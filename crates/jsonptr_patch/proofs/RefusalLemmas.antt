@@ -6,17 +6,17 @@ use Rattle.jsonptr.specs.Delete.{NamesNothing}
 use Rattle.jsonptr.specs.Resolve.{Refuses}
 use Rattle.jsonptr.specs.declared.resolve.Error.{Error as ResolveError}
 use Rattle.jsonptr.specs.declared.assign.Error.{Error as AssignError}
-use Rattle.jsonptr.specs.Node.{key, Path, Scalar, Label, an_object, an_array, a_leaf, NodeMap, sub, NamesStep, Names}
+use Rattle.jsonptr.specs.Node.{Step, key, Path, Scalar, Label, an_object, an_array, a_leaf, NodeMap, sub, NamesStep, Names}
 use Rattle.jsonptr.specs.Following.{Finds, StopsBefore, LacksStep}
 use Rattle.jsonptr.specs.Put.{put}
 use Rattle.jsonptr_tree.proofs.FollowingLemmas.{cases_some, lacks_at_object, stops_before, stops-lacks}
-use Rattle.jsonptr_tree.proofs.NodeLemmas.{sub-root, sub-sub, Names-append, Names-split, Names_one_path}
+use Rattle.jsonptr_tree.proofs.NodeLemmas.{sub-root, sub-sub, NamesStep_one_step, Names-append, Names-split, Names_one_path}
 use Rattle.jsonptr_patch.specs.Adding.{LacksParent, HasArray}
 use Rattle.jsonptr_patch.specs.Apart.{Diverges}
 use Rattle.jsonptr_patch.specs.Inverse.{HasObject, IsElementAt}
 use Rattle.jsonptr_patch.specs.Operating.{RefusesTarget, RefusesAdd, RefusesTestBy}
 use Rattle.jsonptr_patch.specs.declared.operation.PatchError.{PatchError}
-use Rattle.jsonptr_patch.proofs.MemberLemmas.{IsLocal, put-other_member, Names-above, object-above, first_step, at_object, other_change}
+use Rattle.jsonptr_patch.proofs.MemberLemmas.{IsLocal, put-other_member, Names-above, object-above, first_step, object_step, at_object, other_change}
 use Rattle.jsonptr_patch.proofs.LevelLemmas.{local_find}
 use Rattle.jsonptr_patch.specs.declared.comparison.Comparison.{Comparison}
 use Rattle.jsonptr_patch.specs.declared.comparison.Comparison.TheVariants.{Strict, Numeric}
@@ -308,6 +308,63 @@ seen_refuses_test by i v e n k front u x more r (inl h) = inl (seen_refuses_targ
 seen_refuses_test Strict i v e n k front u x more r (inr (inl h)) = inr (inl (h.0, h.1, seen_finds h.1 n k front u x more r h.2, h.3))
 seen_refuses_test Strict i v e n k front u x more r (inr (inr h)) = inr (inr (h.0, h.1, record { found = seen_finds h.1 n k front u x more r h.2.found; target_plain = h.2.target_plain; value_plain = h.2.value_plain }, h.3))
 seen_refuses_test Numeric i v e n k front u x more r (inr h) = inr (h.0, h.1, seen_finds h.1 n k front u x more r h.2, h.3)
+
+-- the object at which tokens diverge from others
+
+object_of_key : (o : Option Label) (x a : Text) → NamesStep o x (key a) → o ≡ Some an_object
+object_of_key None x a h = absurd h
+object_of_key (Some an_object) x a h = refl
+object_of_key (Some (an_array i)) x a h = absurd h
+object_of_key (Some (a_leaf v)) x a h = absurd h
+
+-- what is an object on the way to a path is one in each map in which the same tokens lead to that path
+object_on_way : (n k : NodeMap) (f : List Text) (z : Text) (g : List Text) (u w : Path) → Names n (f ++ z ∷ g) u → Names k (f ++ z ∷ g) u → Names n f w → n w ≡ Some an_object → Names k f w × (k w ≡ Some an_object)
+object_on_way n k [] z g [] w h i named object = absurd h
+object_on_way n k [] z g (s ∷ u) (t ∷ w) h i named object = absurd named
+object_on_way n k [] z g (s ∷ u) [] h i named object =
+    let step : s ≡ key z = object_step (n []) z s object h.0 in
+    let label : k [] ≡ Some an_object = object_of_key (k []) z z (subst (λ (t : Step). NamesStep (k []) z t) step i.0) in
+    (subst (λ (l : Option Label). IsSome l) (sym label) refl, label)
+object_on_way n k (y ∷ f) z g [] w h i named object = absurd h
+object_on_way n k (y ∷ f) z g (s ∷ u) [] h i named object = absurd named
+object_on_way n k (y ∷ f) z g (s ∷ u) (t ∷ w) h i named object =
+    let same : s ≡ t = NamesStep_one_step (n []) y s t h.0 named.0 in
+    let first : Names (sub n (t ∷ [])) (f ++ z ∷ g) u = subst (λ (r : Step). Names (sub n (r ∷ [])) (f ++ z ∷ g) u) same h.1 in
+    let second : Names (sub k (t ∷ [])) (f ++ z ∷ g) u = subst (λ (r : Step). Names (sub k (r ∷ [])) (f ++ z ∷ g) u) same i.1 in
+    let rest = object_on_way (sub n (t ∷ [])) (sub k (t ∷ [])) f z g u w first second named.1 object in
+    ((subst (λ (r : Step). NamesStep (k []) y r) same i.0, rest.0), rest.1)
+
+seen_diverges : (from : List Text) → IsSeen (λ n tokens. Diverges n from tokens)
+seen_diverges from n k front u x more r d = ⊎_elim
+    (λ (c : (d.front ≡ front) × (d.there ≡ x)). at u (subst (λ (ts : List Text). Names k ts u) (sym c.0) r.named_too) r.object_too)
+    (λ (c : ((g : List Text) × (d.front ≡ front ++ x ∷ g)) ⊎ ((g : List Text) × (front ≡ d.front ++ d.there ∷ g) × (d.others ≡ g ++ x ∷ more))). ⊎_elim
+    (λ (b : (g : List Text) × (d.front ≡ front ++ x ∷ g)).
+    let leads = named_below n k front u x r b.0 d.path (subst (λ (ts : List Text). Names n ts d.path) b.1 d.named) in
+    at ((u ++ key x ∷ []) ++ leads.0) (subst (λ (ts : List Text). Names k ts ((u ++ key x ∷ []) ++ leads.0)) (sym b.1) leads.2) (label_same n k front u x r leads.0 ∙ ap n (sym leads.1) ∙ d.object))
+    (λ (b : (g : List Text) × (front ≡ d.front ++ d.there ∷ g) × (d.others ≡ g ++ x ∷ more)).
+    let way = object_on_way n k d.front d.there b.0 u d.path (subst (λ (ts : List Text). Names n ts u) b.1 r.named) (subst (λ (ts : List Text). Names k ts u) b.1 r.named_too) d.named d.object in
+    at d.path way.0 way.1)
+    c)
+    (cases_prefix front d.front x d.there more d.others d.second)
+  where
+    at : (w : Path) → Names k d.front w → k w ≡ Some an_object → Diverges k from (front ++ x ∷ more)
+    at w named object = record {
+      front = d.front;
+      path = w;
+      here = d.here;
+      more = d.more;
+      there = d.there;
+      others = d.others;
+      first = d.first;
+      second = d.second;
+      differ = d.differ;
+      named = named;
+      object = object;
+    }
+
+-- and that there is none
+pub seen_diverges_nowhere : (from : List Text) → IsSeen (λ n tokens. Diverges n from tokens → ⊥)
+seen_diverges_nowhere from n k front u x more r apart d = apart (seen_diverges from k n front u x more (turned n k front u x r) d)
 
 -- what is seen is not changed where tokens diverge
 

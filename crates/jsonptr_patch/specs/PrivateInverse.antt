@@ -4,9 +4,9 @@ use Rattle.std.specs.Prelude.{◌≡◌, ℕ, List, [], ◌∷◌, ◌++◌, rev
 use Rattle.serde_json.specs.Data.{Data}
 use Rattle.jsonptr.specs.Json.{HasSortedKeys}
 use Rattle.jsonptr.specs.Node.{NodeMap}
+use Rattle.jsonptr_patch.specs.Inverse.{TakesBack}
 use Rattle.jsonptr_patch.specs.Operating.{RefusesTarget, RefusesAdd, RefusesMove, RefusesCopy}
 use Rattle.jsonptr_patch.specs.Order.{OperationHasSortedKeys}
-use Rattle.jsonptr_patch.specs.Patching.{Patches}
 use Rattle.jsonptr_patch.specs.declared.operation.Operation.{Operation}
 use Rattle.jsonptr_patch.specs.declared.operation.Operation.TheVariants.{Add, Remove, Replace, Move, Copy, Test}
 use Rattle.jsonptr_patch.specs.declared.operation.PatchError.{PatchError}
@@ -15,10 +15,9 @@ use Rattle.jsonptr_patch.specs.declared.operation.PatchError.{PatchError}
 abbrev pub AppendsBack : List Operation → List Operation → List Operation → Type 0
 AppendsBack os back ps = ps ≡ os ++ reverse back
 
--- `TakesAllBackFrom m ps n os`: what the operations `os`, the last one first, make of `n`, the operations `ps`, the last
--- one first, make of `m`
-abbrev pub TakesAllBackFrom : NodeMap → List Operation → NodeMap → List Operation → Type 0
-TakesAllBackFrom m ps n os = (k : NodeMap) → Patches n (reverse os) k → Patches m (reverse ps) k
+-- `AppendsBackOf n o os ps`: `ps` are `os` and then the operations that take back operation `o` on `n`, the last one first
+abbrev pub AppendsBackOf : NodeMap → Operation → List Operation → List Operation → Type 0
+AppendsBackOf n o os ps = (back : List Operation) × TakesBack n o back × AppendsBack os back ps
 
 -- `IsPlaceBack o back`: the operations `back` remove a value that operation `o` adds where there was none. A value that is
 -- moved is moved back

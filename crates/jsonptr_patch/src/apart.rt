@@ -184,7 +184,7 @@ fn diverges_from_both(
 /// # Errors
 ///
 /// [`AllocError`] if an allocation fails.
-fn diverge(
+pub fn diverge(
     alloc: Global,
     document: &Value,
     left: Pointer<'_>,

@@ -8,13 +8,13 @@ ghost use Rattle.jsonptr.specs.Node.{NodeMap};
 ghost use Rattle.jsonptr.specs.Pointer.{tokens};
 ghost use Rattle.jsonptr.specs.Text.{Text, dec};
 ghost use Rattle.jsonptr_patch.specs.Apart.{Diverges, AllDiverge, pointers};
-ghost use Rattle.jsonptr_patch.specs.Inverse.{TakesAddBack, TakesBack, TakesMoveBack};
+ghost use Rattle.jsonptr_patch.specs.Inverse.{TakesAddBack, TakesBack, TakesMoveBack, TakesAllBack, TakesAllBackBy};
 ghost use Rattle.jsonptr_journal.specs.Changes.{IsThere, TakesAt};
 ghost use Rattle.jsonptr_journal.specs.Location.{path_of, contents_of};
 ghost use Rattle.jsonptr_patch.specs.Operating.{IsProperPrefix, AppliesBy, RefusesAdd, RefusesMove, RefusesTarget, RefusesOperationBy, RestoresAt};
 ghost use Rattle.jsonptr_patch.specs.Order.{OperationHasSortedKeys};
 ghost use Rattle.jsonptr_patch.specs.Patching.{Patches, PatchesBy, RefusesPatch, RefusesPatchBy};
-ghost use Rattle.jsonptr_patch.specs.PrivateInverse.{AppendsBack, TakesAllBackFrom, IsPlaceBack, StaySorted, RefusesChange};
+ghost use Rattle.jsonptr_patch.specs.PrivateInverse.{AppendsBack, AppendsBackOf, IsPlaceBack, StaySorted, RefusesChange};
 ghost use Rattle.jsonptr_patch.specs.PrivateLater.{paths_of, IsPending, TakesPlace, StandsFor};
 ghost use Rattle.jsonptr_patch.specs.PrivateRecording.{CanUndo, Records};
 ghost use Rattle.jsonptr_patch.specs.declared.comparison.Comparison.{Comparison as SpecComparison};
@@ -22,9 +22,10 @@ ghost use Rattle.jsonptr_patch.specs.declared.operation.Operation.{Operation as 
 ghost use Rattle.jsonptr_patch.specs.declared.operation.Operation.TheVariants as variant;
 
 use crate::add::target_of;
+use crate::apart::diverge;
 use crate::comparison::Comparison;
 use crate::copy::copy_of;
-use crate::later::{diverges, make_apart, record_apart, take_place, unlink};
+use crate::later::{make_apart, record_apart, take_place, unlink};
 use crate::move_value::is_proper_prefix;
 use crate::operation::{Operation, PatchError};
 use crate::target::target;
@@ -46,6 +47,9 @@ use std::alloc::{AllocError, Global};
 /// | a replacement | a `replace` with the old value |
 /// | a move | a `move`, then an `add` of the member that was replaced, if any |
 /// | a test | nothing |
+///
+/// Only the order of the members in their values is not determined by document and patch
+/// ([`inverse_law`](crate::laws::inverse::inverse_law)).
 ///
 /// Each value that is removed or replaced is cloned once, and a value that is moved is not. Two moves
 /// are taken back by two operations, which clone the value: one to a location above its source, and
@@ -82,6 +86,8 @@ pub fn apply_with_inverse(
         → HasSortedKeys (view document.old) → HasSortedKeys (view document.new)) }
     ensures inverse { IfOk result (λ back.
         Patches (nodes (view document.new)) back.items (nodes (view document.old))) }
+    ensures taken_back { IfOk result (λ back.
+        TakesAllBack (nodes (view document.old)) patch.items back.items) }
     ensures inverse_sorted { IfOk result (λ back. All OperationHasSortedKeys patch.items
         → HasSortedKeys (view document.old) → All OperationHasSortedKeys back.items) }
     ensures empty { patch.items ≡ [] → IsOk result }
@@ -123,6 +129,8 @@ pub fn apply_comparing_with_inverse(
         → HasSortedKeys (view document.old) → HasSortedKeys (view document.new)) }
     ensures inverse { IfOk result (λ back.
         Patches (nodes (view document.new)) back.items (nodes (view document.old))) }
+    ensures taken_back { IfOk result (λ back.
+        TakesAllBackBy comparison (nodes (view document.old)) patch.items back.items) }
     ensures inverse_sorted { IfOk result (λ back. All OperationHasSortedKeys patch.items
         → HasSortedKeys (view document.old) → All OperationHasSortedKeys back.items) }
     ensures empty { patch.items ≡ [] → IsOk result }
@@ -169,6 +177,8 @@ fn record_with_inverse(
         → HasSortedKeys (view document.old) → HasSortedKeys (view document.new)) }
     ensures inverse { IfOk result (λ back.
         Patches (nodes (view document.new)) back.items (nodes (view document.old))) }
+    ensures taken_back { IfOk result (λ back.
+        TakesAllBackBy first.comparison (nodes (view document.old)) operations.items back.items) }
     ensures inverse_sorted { IfOk result (λ back. All OperationHasSortedKeys operations.items
         → HasSortedKeys (view document.old) → All OperationHasSortedKeys back.items) }
     ensures refused { IfRefused result (RefusesPatchBy first.comparison (nodes (view document.old)) operations.items) }
@@ -208,7 +218,8 @@ fn record_each(
     ensures applied { IfOk result (λ _. (n : NodeMap)
         × PatchesBy first.comparison (nodes (view document.old)) operations.items n
         × IsPending (nodes (view document.new)) run.new.later.items n
-        × Patches n (reverse inverse.new.items) (nodes (view document.old))) }
+        × TakesAllBackBy first.comparison (nodes (view document.old)) operations.items
+        (reverse inverse.new.items)) }
     ensures sorted { IfOk result (λ _. All OperationHasSortedKeys operations.items
         → HasSortedKeys (view document.old) → HasSortedKeys (view document.new)) }
     ensures inverse_sorted { IfOk result (λ _. All OperationHasSortedKeys operations.items
@@ -243,7 +254,7 @@ fn step(
     ensures applied { IfOk result (λ _. (n : NodeMap)
         → IsPending (nodes (view document.old)) run.old.later.items n
         → (m : NodeMap) × AppliesBy turn.comparison n operation m × IsPending (nodes (view document.new)) run.new.later.items m
-        × TakesAllBackFrom m inverse.new.items n inverse.old.items) }
+        × AppendsBackOf n operation inverse.old.items inverse.new.items) }
     ensures sorted { IfOk result (λ _. OperationHasSortedKeys operation
         → HasSortedKeys (view document.old) → HasSortedKeys (view document.new)) }
     ensures inverse_sorted { IfOk result (λ _.
@@ -281,7 +292,7 @@ fn settle_with_back(
         × StandsFor k n operation.now) }
     ensures back { IfOk result (λ _. (c : SpecComparison) (n m : NodeMap)
         → IsPending (nodes (view document.old)) run.old.later.items n → AppliesBy c n operation.now m
-        → TakesAllBackFrom m inverse.new.items n inverse.old.items) }
+        → AppendsBackOf n operation.now inverse.old.items inverse.new.items) }
     ensures sorted { IfOk result (λ _.
         HasSortedKeys (view document.old) → HasSortedKeys (view document.new)) }
     ensures inverse_sorted { IfOk result (λ _.
@@ -467,7 +478,8 @@ fn back_of_move(
         }));
     }
     let location = target(turn, document, from)?;
-    if diverges(turn.alloc, document, from, path) {
+    let apart = diverge(turn.alloc, document, from, path)?;
+    if apart {
         return back_of_diverging_move(turn, document, inverse, from, path);
     }
     let back = back_in_left(turn, document, location, path)?;
@@ -574,7 +586,9 @@ fn append_reverse(
     from: Pointer<'_>,
     back: Operation,
 ) -> Result<(), Fault<PatchError>>
-    ensures back { IfOk result (λ _. (path : List Text) → (reverse : List SpecOperation)
+    ensures back { IfOk result (λ _. (path : List Text)
+        → (Diverges (nodes (view document.now)) (tokens from.entry) path → ⊥)
+        → (reverse : List SpecOperation)
         × TakesMoveBack (nodes (view document.now)) (tokens from.entry) path back reverse
         × AppendsBack inverse.old.items reverse inverse.new.items) }
     ensures sorted { IfOk result (λ _. OperationHasSortedKeys back
@@ -639,7 +653,8 @@ fn addition_at(
 fn location_of(back: Operation, from: Pointer<'_>) -> Result<PointerBuf, Operation>
     ensures location { IfOk result (λ location.
         (back ≡ variant.Remove location) × (IsProperPrefix location (tokens from.entry) → ⊥)) }
-    ensures returned { IfErr result (λ other. other ≡ back) }
+    ensures returned { IfErr result (λ other. (other ≡ back) × ((location : List Text)
+        → back ≡ variant.Remove location → IsProperPrefix location (tokens from.entry))) }
 {
     match back {
         Operation::Remove { path: location } => {

@@ -141,7 +141,7 @@ fn differ(left: Pointer<'_>, right: Pointer<'_>) -> bool
 
 /// Returns whether the two pointers diverge at an object of the document. May return false if an
 /// allocation fails.
-pub fn diverges(alloc: Global, document: &Value, left: Pointer<'_>, right: Pointer<'_>) -> bool
+fn diverges(alloc: Global, document: &Value, left: Pointer<'_>, right: Pointer<'_>) -> bool
     ensures { IsTrue result
         → Diverges (nodes (view document.now)) (tokens left.entry) (tokens right.entry) }
 {

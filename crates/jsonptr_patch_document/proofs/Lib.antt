@@ -5,3 +5,4 @@ pub mod FaultyLemmas
 pub mod SameLemmas
 pub mod SortingLemmas
 pub mod WritingLemmas
+pub mod DepthLemmas

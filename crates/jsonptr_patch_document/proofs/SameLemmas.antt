@@ -2,12 +2,15 @@
 use Rattle.std.proofs.Common.{◌≡◌, List, [], ◌∷◌, Some, ap, ◌∙◌, subst}
 use Rattle.serde_json.specs.Data as json
 use Rattle.serde_json.specs.View.{view}
+use Rattle.serde_json.specs.declared.value.Value.{Value}
+use Rattle.jsonptr.specs.Following.{Finds}
 use Rattle.jsonptr.specs.Json.{nodes}
 use Rattle.jsonptr.specs.Node.{NodeMap}
 use Rattle.jsonptr.specs.Resolve.{PutsAt}
 use Rattle.jsonptr.specs.Text.{Text}
 use Rattle.jsonptr_patch.specs.Adding.{Adds}
-use Rattle.jsonptr_patch.specs.Operating.{AppliesBy, Takes, Moves, Copies, PassesBy}
+use Rattle.jsonptr_patch.specs.Inverse.{TakesAddBack, TakesBack, TakesAllBackBy}
+use Rattle.jsonptr_patch.specs.Operating.{AppliesBy, Takes, Moves, Copies, PassesBy, RestoresAt}
 use Rattle.jsonptr_patch.specs.Patching.{PatchesBy}
 use Rattle.jsonptr_patch.specs.declared.comparison.Comparison.{Comparison}
 use Rattle.jsonptr_patch.specs.declared.operation.Operation.{Operation}
@@ -46,3 +49,20 @@ same_effects c n m [] [] s h = h
 same_effects c n m [] (p ∷ ps) s h = absurd s
 same_effects c n m (o ∷ os) [] s h = absurd s
 same_effects c n m (o ∷ os) (p ∷ ps) s h = (h.0, same_effect c n h.0 o p s.0 h.1, same_effects c h.0 m os ps s.1 h.2)
+
+-- what takes an operation back takes back the same operation
+same_back : (n : NodeMap) (o p : Operation) (back : List Operation) → IsSameOperation o p → TakesBack n o back → TakesBack n p back
+same_back n (Add path v) (Add other w) back s h = subst (λ (ts : List Text). (q : Operation) × (back ≡ q ∷ []) × TakesAddBack n ts q) s.0 h
+same_back n (Remove path) (Remove other) back s h = subst (λ (ts : List Text). (q : Operation) × (back ≡ q ∷ []) × RestoresAt n ts q) s h
+same_back n (Replace path v) (Replace other w) back s h = subst (λ (ts : List Text). (old : Value) × (back ≡ Replace ts old ∷ []) × Finds n ts (nodes (view old))) s.0 h
+same_back n (Move from path) (Move source other) back s h = both (λ (ts us : List Text). TakesBack n (Move ts us) back) from source path other s.0 s.1 h
+same_back n (Copy from path) (Copy source other) back s h = subst (λ (ts : List Text). (q : Operation) × (back ≡ q ∷ []) × TakesAddBack n ts q) s.1 h
+same_back n (Test path v) (Test other w) back s h = h
+same_back n o p back s h = absurd s
+
+-- and so it is with lists
+pub same_inverse : (c : Comparison) (n : NodeMap) (os ps back : List Operation) → AreSameOperations os ps → TakesAllBackBy c n os back → TakesAllBackBy c n ps back
+same_inverse c n [] [] back s h = h
+same_inverse c n [] (p ∷ ps) back s h = absurd s
+same_inverse c n (o ∷ os) [] back s h = absurd s
+same_inverse c n (o ∷ os) (p ∷ ps) back s h = (h.0, h.1, h.2, same_effect c n h.0 o p s.0 h.3, same_back n o p h.1 s.0 h.4, same_inverse c h.0 os ps h.2 s.1 h.5, h.6)

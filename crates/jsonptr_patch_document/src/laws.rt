@@ -1,11 +1,13 @@
 //! Laws of patch documents. Each law is the contract of a function that does nothing.
-ghost use Rattle.std.specs.Prelude.{◌≡◌, ◌↔◌, ℕ, List, All, IsTrue, Some};
-ghost use Rattle.serde_json.specs.Data.{Data};
+ghost use Rattle.std.specs.Prelude.{◌≡◌, ◌↔◌, ℕ, ◌+◌, ◌<◌, ◌≤◌, List, All, IsTrue, Some};
+ghost use Rattle.serde_json.specs.Data.{Data, depth};
+ghost use Rattle.jsonptr.specs.Documents.{IsDocument};
 ghost use Rattle.jsonptr.specs.Json.{HasSortedKeys};
 ghost use Rattle.jsonptr.specs.Node.{NodeMap};
 ghost use Rattle.jsonptr.specs.ParseError.{IsParseErrorOf};
 ghost use Rattle.jsonptr.specs.Text.{Text};
 ghost use Rattle.jsonptr.specs.Types.ParseError.{ParseError};
+ghost use Rattle.jsonptr_patch.specs.Inverse.{TakesAllBackBy, HasDeepNodeBefore};
 ghost use Rattle.jsonptr_patch.specs.Order.{OperationHasSortedKeys};
 ghost use Rattle.jsonptr_patch.specs.Patching.{Patches, PatchesBy};
 ghost use Rattle.jsonptr_patch.specs.declared.comparison.Comparison.{Comparison};
@@ -21,6 +23,7 @@ ghost use Rattle.jsonptr_patch_document.specs.declared.member.Member.{Member};
 
 use crate::error::PatchDocumentError;
 use jsonptr::laws::parse_law;
+use jsonptr_patch::laws::inverse::inverse_law;
 
 /// States that an object is at most one operation, that at most one error reports why it is not an
 /// operation, and that it never is an operation and also has such an error.
@@ -39,8 +42,8 @@ pub fn operation_object_law()
 /// and that it never is a patch and also has such an error.
 ///
 /// The values of two lists of operations that a document is may be kept in different memory. Such
-/// lists make the same map of each document, however their tests compare, and the keys of their values are sorted if those of the
-/// patch document are.
+/// lists make the same map of each document, however their tests compare, and what takes one back takes the other
+/// one back. The keys of their values are sorted if those of the patch document are.
 pub fn patch_document_law()
     ensures one_patch { (d : Data) (os ps : List Operation)
         → IsPatch d os → IsPatch d ps → AreSameOperations os ps }
@@ -52,6 +55,8 @@ pub fn patch_document_law()
         → AreSameOperations os ps → Patches n os m → Patches n ps m }
     ensures same_effect_comparing { (c : Comparison) (n m : NodeMap) (os ps : List Operation)
         → AreSameOperations os ps → PatchesBy c n os m → PatchesBy c n ps m }
+    ensures same_inverse { (c : Comparison) (n : NodeMap) (os ps back : List Operation)
+        → AreSameOperations os ps → TakesAllBackBy c n os back → TakesAllBackBy c n ps back }
     ensures sorted { (d : Data) (os : List Operation)
         → HasSortedKeys d → IsPatch d os → All OperationHasSortedKeys os }
 {
@@ -69,6 +74,23 @@ pub fn writing_law()
         → All ValueHasSortedKeys os → HasSortedKeys (document_of os) }
 {
     patch_document_law();
+}
+
+/// States how deep the document of what takes a patch back nests. The keys of its values are sorted.
+///
+/// - It is deeper than `k + 2` only if some node is deeper than `k` in the document before an operation, or in what
+///   a move has left of that document.
+/// - It is one depth, whatever takes the patch back.
+pub fn inverse_depth_law()
+    ensures deep { (c : Comparison) (n : NodeMap) (os back : List Operation) (k : ℕ)
+        → TakesAllBackBy c n os back → All OperationHasSortedKeys back
+        → k + 2 < depth (document_of back) → HasDeepNodeBefore c n os k }
+    ensures same { (c : Comparison) (n : NodeMap) (os back others : List Operation) (k : ℕ)
+        → IsDocument n → TakesAllBackBy c n os back → TakesAllBackBy c n os others
+        → All OperationHasSortedKeys others
+        → depth (document_of back) ≤ k + 2 → depth (document_of others) ≤ k + 2 }
+{
+    inverse_law();
 }
 
 /// States that the text which [`PatchDocumentError::pointer_text`] returns for the error of a document

@@ -21,4 +21,4 @@ returns-in_err-inverse-clause-refused c =
 pub returns-in_err-text-clause-refused : goal.returns-in_err-text-clause-refused
 returns-in_err-text-clause-refused c =
     let p = err_from_is_err_and c.from_residual-in_err-text.result c.from_residual-in_err-text.ensures.1 in
-    rw (p.1, p.2) (not_printed c.args.text.now (view c.args.patch.now) (view c.in_ok-document.document) c.in_ok-operations.operations.items c.in_ok-inverse.inverse.items _ _ c.in_ok-operations.ensures.patch c.in_ok-document.ensures.read c.in_ok-inverse.ensures.applied c.in_ok-inverse.ensures.inverse c.in_err-text.ensures.refused)
+    rw (p.1, p.2) (not_printed c.args.text.now (view c.args.patch.now) (view c.in_ok-document.document) c.in_ok-operations.operations.items c.in_ok-inverse.inverse.items _ c.in_ok-operations.ensures.patch c.in_ok-document.ensures.read c.in_ok-inverse.ensures.taken_back (λ s all. c.in_ok-inverse.ensures.sorted all s) (λ s. c.patch_document_law.ensures.sorted (view c.args.patch.now) c.in_ok-operations.operations.items s c.in_ok-operations.ensures.patch) c.in_err-text.ensures.refused)

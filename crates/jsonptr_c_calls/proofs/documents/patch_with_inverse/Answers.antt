@@ -19,7 +19,11 @@ returns-in-Ok-clause-applied c =
       kept,
       (
         (c.in_ok-operations.operations.items, c.in_ok-operations.ensures.read, c.in-Ok.ensures.shallow, c.in-Ok.ensures.applied),
-        subst (λ (out : List ℕ). IsInverseText c.args.format (view made.document) (view value) out) (sym copied) c.in-Ok.ensures.inverse,
+        (
+          c.in_ok-operations.operations.items,
+          c.in_ok-operations.ensures.read,
+          subst (λ (out : List ℕ). IsInverseText c.args.format (view value) c.in_ok-operations.operations.items (view made.document) out) (sym copied) c.in-Ok.ensures.inverse,
+        ),
       ),
     ))
     c.put_patched.ensures.copied c.put_patched.ensures.replaced

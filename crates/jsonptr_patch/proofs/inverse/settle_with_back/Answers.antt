@@ -35,7 +35,7 @@ pub returns-clause-back : goal.returns-clause-back
 returns-clause-back c = ok_all c.back_of.result _ _
     (λ h by n m p a.
     let q = subst (λ (ls : List Later). IsPending (nodes (view c.args.document.now)) ls n) (sym (c.take_place.ensures.not_taken c.if-take_place.false)) p in
-    later_back by c.make_apart.new.document n m c.args.operation.now h.0 c.args.inverse.now.items c.back_of.new.inverse.items c.make_apart.new.run.later.items c.in_ok-make_apart.ensures.apart h.1 h.2 (c.in_ok-make_apart.ensures.same n q) a)
+    later_back c.make_apart.new.document n c.args.operation.now h.0 c.args.inverse.now.items c.back_of.new.inverse.items c.make_apart.new.run.later.items c.in_ok-make_apart.ensures.apart h.1 h.2 (c.in_ok-make_apart.ensures.same n q))
     c.back_of.ensures.back
 
 pub returns-clause-refused : goal.returns-clause-refused

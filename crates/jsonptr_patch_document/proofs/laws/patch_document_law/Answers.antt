@@ -1,6 +1,6 @@
 use Rattle.jsonptr_patch.specs.declared.comparison.Comparison.TheVariants.{Strict}
 use Rattle.jsonptr_patch_document.proofs.DocumentLemmas.{one_patch, one_patch_error, patch_or_not}
-use Rattle.jsonptr_patch_document.proofs.SameLemmas.{same_effects}
+use Rattle.jsonptr_patch_document.proofs.SameLemmas.{same_effects, same_inverse}
 use Rattle.jsonptr_patch_document.proofs.SortingLemmas.{patch_sorted}
 use Rattle.jsonptr_patch_document.proofs.laws.patch_document_law.Goals as goal
 
@@ -18,6 +18,9 @@ returns-clause-same_effect c = same_effects Strict
 
 pub returns-clause-same_effect_comparing : goal.returns-clause-same_effect_comparing
 returns-clause-same_effect_comparing c = same_effects
+
+pub returns-clause-same_inverse : goal.returns-clause-same_inverse
+returns-clause-same_inverse c = same_inverse
 
 pub returns-clause-sorted : goal.returns-clause-sorted
 returns-clause-sorted c = patch_sorted
