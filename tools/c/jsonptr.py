@@ -64,7 +64,7 @@ __all__ = ["Document", "JsonPatchError", "JsonPointerError", "JsonptrError", "No
            "NotPointer", "Patch", "Span", "TooDeep", "escape", "locate", "lost_number", "make_patch", "pointer_at", "resolve",
            "resolve_in_text", "tokens", "version"]
 
-__version__ = "0.3.0-dev"
+__version__ = "0.3.0"
 
 Text = Union[str, bytes, bytearray, memoryview]
 JSON = Union[None, bool, int, float, str, Sequence["JSON"], Mapping[str, "JSON"]]
