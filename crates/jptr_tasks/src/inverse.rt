@@ -22,16 +22,17 @@ use std::alloc::Global;
 /// Returns the inverse of the patch document: it turns the document of the text after the patch into
 /// the document of the text.
 ///
-/// [`Task::Patch`](crate::task::Task::Patch) applies both, and after both what is printed is read as
-/// the document of the text ([`printed_inverse_law`](crate::laws::printed_inverse_law)).
+/// [`Task::Patch`](crate::task::Task::Patch) applies both. In a layout other than
+/// [`Layout::Raw`], what is printed after both is read as the document of the text
+/// ([`printed_inverse_law`](crate::laws::printed_inverse_law)).
 ///
 /// # Errors
 ///
 /// - [`TaskError::NotPatch`] if the patch document is not a patch, and [`TaskError::PatchFailed`] if an
 ///   operation fails.
 /// - [`TaskError::NotJson`] if the text is not JSON.
-/// - [`TaskError::PatchTooDeep`] if the inverse nests deeper than 127. Its values are those that the patch
-///   removes or replaces, two levels deeper. So one of them nests deeper than 125
+/// - [`TaskError::PatchTooDeep`] if the inverse nests deeper than 127. Its values are some that the patch
+///   removes, replaces or moves, two levels deeper. So one of them nests deeper than 125
 ///   ([`inverse_depth_law`](crate::laws::inverse_depth_law)).
 /// - [`TaskError::Memory`] if an allocation fails.
 ///

@@ -65,8 +65,9 @@ pub fn paths_law()
 /// States what `patch` does after `diff`, as texts.
 ///
 /// Let `a` and `b` be texts of documents, and let the text of their difference be applied to `a`. Then
-/// the text that is printed reads as the document of `b`, in each layout. There is no error but a
-/// failed allocation, and [`TaskError::NotInPlace`](crate::task_error::TaskError::NotInPlace) in the layout
+/// the text that is printed reads as the document of `b`. In the layout
+/// [`Layout::Raw`](crate::layout::Layout::Raw) a string is printed without its quotes. There is no error except
+/// a failed allocation, and [`TaskError::NotInPlace`](crate::task_error::TaskError::NotInPlace) in the layout
 /// [`Layout::Kept`](crate::layout::Layout::Kept).
 pub fn printed_difference_law()
     ensures applied { (a b out : Text) (n m p : Data) (style layout : Layout) (d : PatchText)
@@ -89,8 +90,8 @@ pub fn printed_difference_law()
     comparing_patch_law();
 }
 
-/// States when the inverse of a patch is too deep to be printed. The keys of the patch document are sorted,
-/// as those of one that is read.
+/// States of which documents the inverse of a patch is too deep to be printed, for a patch document whose keys
+/// are sorted, as those of one that is read.
 ///
 /// - A node that nests deeper than 125 is in the document before an operation, or in what a move has left of it.
 /// - The patch then has no inverse that is printed.
@@ -109,10 +110,10 @@ pub fn inverse_depth_law()
 /// States what `patch` does with the inverse of a patch, as texts.
 ///
 /// Let a patch be applied to the text `a`, and let its inverse be applied to the text that is printed.
-/// Then the text that is printed reads as the document of `a`, in each layout. There is no error but a
-/// failed allocation, and [`TaskError::NotInPlace`](crate::task_error::TaskError::NotInPlace) in the layout
-/// [`Layout::Kept`](crate::layout::Layout::Kept). The first of the two does not print in the layout
-/// [`Layout::Raw`](crate::layout::Layout::Raw), since a string is not JSON without its quotes.
+/// Then the text that is printed reads as the document of `a`. There is no error except a failed allocation,
+/// and [`TaskError::NotInPlace`](crate::task_error::TaskError::NotInPlace) in the layout
+/// [`Layout::Kept`](crate::layout::Layout::Kept). In the layout [`Layout::Raw`](crate::layout::Layout::Raw) a
+/// string is printed without its quotes, so it is not JSON: the first of the two is in another layout.
 pub fn printed_inverse_law()
     ensures undone { (a b out : Text) (d patch back : Data) (style first layout : Layout) (u : PatchText)
         → read a ≡ Some d
@@ -182,8 +183,8 @@ pub fn order_law()
 
 /// States which calls do not replace a file, the latest call first.
 ///
-/// Calls that write the text twice, not at all or in part leave another text (`twice`, `not_at_all`,
-/// `in_part`), and so does any write after the rename (`late`). If the temporary file was removed before
+/// Calls that write the text twice, not at all or in part can leave another text (`twice`, `not_at_all`,
+/// `in_part`), and so can any write after the rename (`late`). If the temporary file was removed before
 /// the rename, nothing can be read after it (`removed`). If it was not synced, a crash may leave any text
 /// (`not_synced`). Rights that were taken before it was created guard nothing (`open_to_all`).
 pub fn replacement_law()

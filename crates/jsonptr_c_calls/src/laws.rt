@@ -40,8 +40,9 @@ pub fn message_law()
 {}
 
 /// States that what a call is passed fixes the status with which it fails, except that an allocation
-/// can fail. Of `lost_number`, `patch_with_inverse` and `pointer_at` a buffer that is too short is left
-/// out, and `diff` and `message` as a whole.
+/// can fail. For `patch` and `patch_with_inverse` it is stated of their text and of its operations, apart. Of
+/// `lost_number`, `patch_with_inverse` and `pointer_at` a buffer that is too short is left out, and `diff` and
+/// `message` as a whole.
 pub fn one_error_law()
     ensures count { (bytes : List ℕ) (e f : CallError)
         → IsNoPointer bytes e → IsNoPointer bytes f → SameStatus e f }
