@@ -87,10 +87,10 @@
  *             nor in a process that was forked while another thread was in a call.
  * Never       The library never prints, exits, aborts or waits.
  * Tested      What a call returns is proved, except for what docs/PROVED.md of
- *             the project lists as tested: among it which numbers that are read
- *             as doubles lose digits, so that 1.10 does not; when a patch that
- *             takes another back nests too deep; which bytes that read as a value
- *             are located, and that the value at an offset is the innermost one.
+ *             the project lists as tested. So are which numbers that are read as
+ *             doubles lose digits, so that 1.10 does not; which bytes that read as
+ *             a value are located; that the value at an offset is the innermost
+ *             one.
  *
  * WHAT THE CALLER MUST UPHOLD
  *
@@ -603,8 +603,9 @@ jsonptr_status jsonptr_document_patch(jsonptr_document *document,
  *
  * That text is always read again: JSONPTR_TOO_DEEP comes also, with the kind
  * JSONPTR_KIND_INVERSE_TOO_DEEP, if it would nest deeper than 127. It nests two
- * levels deeper than the values in it, which are those that the operations
- * remove or replace.
+ * levels deeper than the values in it, which are some that the operations
+ * remove, replace or move. Where a move leads up in a document that nests
+ * thousands of levels, jsonptr_document_patch can return JSONPTR_TOO_DEEP for it.
  *
  * flags     JSONPTR_COMPACT or JSONPTR_PRETTY, of the text that is copied.
  * Returns   JSONPTR_OK, those of jsonptr_document_patch, JSONPTR_TOO_DEEP (see

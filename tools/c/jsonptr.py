@@ -142,7 +142,8 @@ class JsonptrError(ValueError):
 
     `status` and `kind` are the numbers of jsonptr.h, which says in a table which error has which of the other fields.
     `position` is that of the token at fault, from 0, and `slash` the offset of the slash before it. `offset` and
-    `length` are the bytes at fault, in UTF-8; of a text that is not JSON, `offset` is where reading stopped. A field
+    `length` are the bytes at fault, in UTF-8; of a text that is not JSON, `offset` is where reading stopped, and of
+    `pointer_at` it is what was passed. A field
     that an error does not have is 0: a pointer in a patch has no `length`. `operation` and `member` are those of a
     patch, or None. Of bytes that are not UTF-8, `member` is "pointer", "token" or "text". A number that this module does
     not know, of a later library, is None in `member`.

@@ -209,6 +209,10 @@ static jsonptr_status call_print(void) { return jsonptr_document_print(&deepest,
 static jsonptr_status call_pretty(void) { return jsonptr_document_print(&deepest, JSONPTR_PRETTY, NULL, 0, NULL, NULL); }
 static jsonptr_status call_get(void) { return jsonptr_document_get(&deepest, TEXT(first), 0, out, OUT, NULL, NULL); }
 
+static jsonptr_status call_string(void) {
+    return jsonptr_document_string(&deepest, TEXT(tokens.bytes), out, OUT, NULL, NULL);
+}
+
 static jsonptr_status call_node(void) {
     jsonptr_node node;
     return jsonptr_document_node(&deepest, TEXT(tokens.bytes), &node, NULL);
@@ -234,8 +238,16 @@ static jsonptr_status call_failing(void) {
     return patch_with("[{\"op\":\"copy\",\"from\":\"%s\",\"path\":\"%s\"},{\"op\":\"remove\",\"path\":\"/9\"}]");
 }
 
-/* Replaces the deepest value, so the inverse is short, and the document is copied and freed. */
+/* No value of the inverse is deep. The document is copied, and the old one freed. */
 static jsonptr_status call_inverse(void) {
+    char patch[256];
+    int length = snprintf(patch, sizeof patch, "[{\"op\":\"add\",\"path\":\"%s\",\"value\":1},{\"op\":\"remove\",\"path\":\"%s\"}]",
+                          second, second);
+    return jsonptr_document_patch_with_inverse(&deepest, patch, (size_t)length, 0, out, OUT, NULL, NULL);
+}
+
+/* Replaces the value at the longest pointer, which nests 127 levels: two levels deeper is too deep. */
+static jsonptr_status call_value_inverse(void) {
     text patch = repeated("[{\"op\":\"replace\",\"value\":1,\"path\":\"", 1);
     append(&patch, tokens.bytes);
     append(&patch, "\"}]");
@@ -263,6 +275,10 @@ static jsonptr_status call_delete(void) { return jsonptr_document_delete(&deepes
 
 static jsonptr_status call_parse(void) { return jsonptr_document_parse(&deepest, "1", 1, NULL); }
 
+static jsonptr_status call_parse_with(void) {
+    return jsonptr_document_parse_with(&deepest, "1", 1, JSONPTR_EXACT_NUMBERS, NULL);
+}
+
 static jsonptr_status call_free(void) {
     jsonptr_document_free(&deepest);
     return JSONPTR_OK;
@@ -277,18 +293,21 @@ static const struct {
     { "print", call_print, JSONPTR_OK, false },
     { "print on lines", call_pretty, JSONPTR_NO_ROOM, true },
     { "get", call_get, JSONPTR_OK, false },
+    { "string", call_string, JSONPTR_OTHER_TYPE, false },
     { "node", call_node, JSONPTR_OK, false },
     { "assign", call_assign, JSONPTR_OK, false },
     { "delete", call_delete, JSONPTR_OK, false },
     { "patch: replace", call_replace, JSONPTR_OK, false },
     { "patch: copy", call_copy, JSONPTR_OK, false },
     { "patch that is undone", call_failing, JSONPTR_PATCH_FAILED, false },
-    { "patch with an inverse", call_inverse, JSONPTR_TOO_DEEP, false },
+    { "patch with an inverse", call_inverse, JSONPTR_OK, false },
+    { "patch with a value too deep for an inverse", call_value_inverse, JSONPTR_TOO_DEEP, false },
     { "patch with a deep inverse", call_deep_inverse, JSONPTR_TOO_DEEP, false },
     { "patch that is too deep", call_deepening, JSONPTR_TOO_DEEP, false },
     { "diff from it", call_diff, JSONPTR_OK, false },
     { "diff to it", call_diff_to, JSONPTR_OK, false },
     { "parse, which frees it", call_parse, JSONPTR_OK, false },
+    { "parse with flags, which frees it", call_parse_with, JSONPTR_OK, false },
     { "free", call_free, JSONPTR_OK, false },
 };
 
