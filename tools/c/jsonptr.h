@@ -108,11 +108,12 @@
  *    is changed by these calls alone. It may be moved by memcpy, but a copy must
  *    not be used beside the original. While a call changes or frees its document,
  *    no other call uses it.
- *  - The stack has room. Calls recurse into a document, with at most 660 bytes a
- *    level in our measurements: 128 KiB are enough for a document that was read,
- *    and 8 MiB, the usual size on Linux, for one of 10,127 levels. On a thread
- *    with a smaller stack, limit the length of pointers and patches from
- *    strangers. Each byte of them deepens a document by at most one level.
+ *  - The stack has room. In our measurements 128 KiB are enough for a call on a
+ *    document that was read, and 256 KiB for one on a text (_in_text). Calls
+ *    recurse into a document, with at most 660 bytes a level: 8 MiB, the usual
+ *    size on Linux, are enough for one of 10,127 levels. On a thread with a
+ *    smaller stack, limit the length of pointers and patches from strangers.
+ *    Each byte of them deepens a document by at most one level.
  *
  * The functions fit any program for Linux on x86-64 processors with SSE4.2. The
  * numbers of statuses, kinds, types and members never change.

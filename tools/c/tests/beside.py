@@ -132,7 +132,7 @@ DIFFERENCES = [
     Difference("`add`, `copy` or `move` to `\"\"` if the document is not an object", "replaces it", "an error", (
         (*applied([{"op": "add", "path": "", "value": 1}], [2]), 1, Raised("TypeError")),
         (*applied([{"op": "copy", "from": "/0", "path": ""}], [2]), 2, Raised("TypeError")))),
-    Difference("`copy` or `move` from `\"\"`, as a `copy` to `/a/b`", "works", "an error", (
+    Difference("`copy` from `\"\"`, as to `/a/b`, or `move` from `\"\"` to `\"\"`", "works", "an error", (
         (*applied([{"op": "copy", "from": "", "path": "/a/b"}], {"a": {}}), {"a": {"b": {"a": {}}}}, Raised("JsonPatchConflict")),
         (*applied([{"op": "move", "from": "", "path": ""}], [1]), [1], Raised("TypeError")))),
     Difference("`move` of an element into itself, as `/0` to `/0/x`", "an error", "it goes into the element after it", (

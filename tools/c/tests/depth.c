@@ -387,14 +387,71 @@ static void check_stack(const char *shape, const char *leaf, bool is_shown) {
     }
 }
 
+/* A text that nests as deep as can be read, and the middle of it. */
+static text shallow;
+static size_t middle, start, end;
+
+static jsonptr_status call_locate_in_text(void) {
+    return jsonptr_locate_in_text(TEXT(shallow.bytes), TEXT(tokens.bytes), &start, &end, NULL);
+}
+
+static jsonptr_status call_pointer_at_in_text(void) {
+    return jsonptr_pointer_at_in_text(TEXT(shallow.bytes), middle, out, OUT, NULL, NULL);
+}
+
+static jsonptr_status call_resolve_in_text(void) {
+    return jsonptr_resolve_in_text(TEXT(shallow.bytes), TEXT(tokens.bytes), 0, out, OUT, NULL, NULL);
+}
+
+static jsonptr_status call_read(void) { return jsonptr_document_parse(&deepest, TEXT(shallow.bytes), NULL); }
+
+static const struct {
+    const char *name;
+    jsonptr_status (*call)(void);
+    size_t most;
+} text_calls[] = {
+    { "locate in a text", call_locate_in_text, (size_t)256 << 10 },
+    { "pointer at an offset of a text", call_pointer_at_in_text, (size_t)256 << 10 },
+    { "resolve in a text", call_resolve_in_text, (size_t)256 << 10 },
+    { "parse a text", call_read, (size_t)128 << 10 },
+    { "print it", call_print, (size_t)128 << 10 },
+    { "free it", call_free, (size_t)128 << 10 },
+};
+
+/* Runs calls on a text that nests 127 levels, and on its document. */
+static void check_texts(const char *opening, const char *leaf, const char *closing, bool is_shown) {
+    text closed = repeated(closing, 126);
+    shallow = repeated(opening, 126);
+    tokens = repeated(first, 126);
+    out = malloc(OUT);
+    append(&shallow, leaf);
+    middle = shallow.length - 1;
+    append(&shallow, closed.bytes);
+    for (size_t i = 0; i < sizeof text_calls / sizeof *text_calls; i++) {
+        current = text_calls[i].call;
+        size_t taken = stack_of(run_call);
+        expect_number("status", text_calls[i].name, returned, JSONPTR_OK);
+        expect_number("enough stack", text_calls[i].name, taken <= text_calls[i].most, 1);
+        if (is_shown) {
+            printf("127 levels of %s, %s: %zu bytes\n", opening, text_calls[i].name, taken);
+        }
+    }
+    free(closed.bytes);
+    free(shallow.bytes);
+    free(tokens.bytes);
+    free(out);
+}
+
 int main(int argc, char **argv) {
     bool is_shown = argc > 1 && strcmp(argv[1], "--stack") == 0;
     first = "/0";
     second = "/1";
     check_stack("arrays", "[]", is_shown);
+    check_texts("[", "[]", "]", is_shown);
     first = "/a";
     second = "/b";
     check_stack("objects", "{}", is_shown);
+    check_texts("{\"a\":", "{}", "}", is_shown);
     if (!is_shown) {
         stack_of(run_tests);
     }
