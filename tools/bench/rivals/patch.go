@@ -1,0 +1,58 @@
+// The package json-patch of evanphx, for rivals.py: patch evanphx patch FILE ROUNDS PATCH_FILE
+//
+// With no rounds it applies the patch once, and writes the document. Else it writes the mean nanoseconds of all rounds, so
+// that the time of collecting garbage counts, as that of freeing memory does in other languages.
+package main
+
+import (
+	"fmt"
+	"os"
+	"strconv"
+	"syscall"
+	"unsafe"
+
+	jsonpatch "github.com/evanphx/json-patch/v5"
+)
+
+// now returns the processor time of this process in nanoseconds.
+func now() int64 {
+	var time syscall.Timespec
+	const process = 2
+	_, _, failed := syscall.Syscall(syscall.SYS_CLOCK_GETTIME, process, uintptr(unsafe.Pointer(&time)), 0)
+	if failed != 0 {
+		check(failed)
+	}
+	return time.Nano()
+}
+
+func check(err error) {
+	if err != nil {
+		fmt.Fprintln(os.Stderr, "rivals:", err)
+		os.Exit(1)
+	}
+}
+
+func main() {
+	text, err := os.ReadFile(os.Args[3])
+	check(err)
+	words, err := os.ReadFile(os.Args[5])
+	check(err)
+	rounds, err := strconv.Atoi(os.Args[4])
+	check(err)
+	job := func() []byte {
+		patch, err := jsonpatch.DecodePatch(words)
+		check(err)
+		result, err := patch.Apply(text)
+		check(err)
+		return result
+	}
+	if rounds == 0 {
+		os.Stdout.Write(job())
+		return
+	}
+	start := now()
+	for round := 0; round < rounds; round++ {
+		job()
+	}
+	fmt.Println((now() - start) / int64(rounds))
+}
