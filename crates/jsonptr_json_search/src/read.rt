@@ -76,12 +76,12 @@ fn read_scalar(alloc: Global, token: Token<'_>) -> Result<Value, ReadError>
         },
         Token::Bool(boolean) => Ok(Value::Bool(boolean)),
         Token::Null => Ok(Value::Null),
-        Token::BeginObject => Err(ReadError::NotJson),
-        Token::EndObject => Err(ReadError::NotJson),
-        Token::BeginArray => Err(ReadError::NotJson),
-        Token::EndArray => Err(ReadError::NotJson),
-        Token::Key(_) => Err(ReadError::NotJson),
-        Token::Bad => Err(ReadError::NotJson),
+        Token::BeginObject
+        | Token::EndObject
+        | Token::BeginArray
+        | Token::EndArray
+        | Token::Key(_)
+        | Token::Bad => Err(ReadError::NotJson),
     }
 }
 
