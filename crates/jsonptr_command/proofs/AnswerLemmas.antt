@@ -17,8 +17,6 @@ use Rattle.jsonptr_command.proofs.JsonLemmas.{json_of-utf8, json_of-None}
 use Rattle.jsonptr_command.specs.Run.{ComesAfterInput, IsRunOutcome, HasValueOf, IsOperationFault, IsRequestFault, LeavesValue, NeedsInput, SplitsInTwo, OnDocument, Resolves, resolving}
 use Rattle.jsonptr_command.specs.Faults.{IsInputFault, of_in_text_fault}
 use Rattle.jsonptr_command.specs.Private.{asked_by, Changes, ComesBeforeDocument, IsFaultOf, IsLineOf, IsNoValue}
-use Rattle.jsonptr_command.specs.declared.run.Request as code
-use Rattle.jsonptr_command.specs.declared.run.Request.TheVariants.{Resolve}
 use Rattle.jsonptr_command.specs.declared.run.Change.{Change}
 use Rattle.jsonptr_command.specs.declared.run.Change.TheVariants.{Assign, Delete, Patch}
 use Rattle.jsonptr_command.specs.declared.fault.RunFault.{RunFault}

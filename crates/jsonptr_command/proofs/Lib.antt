@@ -6,3 +6,4 @@ pub mod OperationWordsLemmas
 pub mod RunLaw
 pub mod OperationDataLemmas
 mod OrderLemmas
+mod PatchFaultLemmas

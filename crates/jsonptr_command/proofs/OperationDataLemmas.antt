@@ -14,9 +14,13 @@ use Rattle.jsonptr.proofs.Calling.{tokens_of-text, IsPointer-text}
 use Rattle.jsonptr_patch.specs.Adding.{Adds}
 use Rattle.jsonptr_patch.specs.Operating.{Applies, Takes, Moves, Copies, Passes, RefusesOperation, RefusesAdd, RefusesTarget, RefusesMove, RefusesCopy, RefusesTest}
 use Rattle.jsonptr_patch.specs.Order.{OperationHasSortedKeys}
-use Rattle.jsonptr_patch.specs.Patching.{Patches, RefusesPatch}
+use Rattle.jsonptr_patch.specs.Failing.{failed}
+use Rattle.jsonptr_patch.specs.Patching.{Patches, FailsBy, RefusesPatch}
 use Rattle.jsonptr_patch.specs.declared.operation.Operation.{Operation}
 use Rattle.jsonptr_patch.specs.declared.operation.Operation.TheVariants as operation
+use Rattle.jsonptr_patch.specs.declared.comparison.Comparison.TheVariants.{Strict}
+use Rattle.jsonptr_patch.specs.declared.failed_operation.FailedOperation.{FailedOperation}
+use Rattle.jsonptr_patch.specs.declared.failed_operation.PatchPointer.TheVariants as pointer
 use Rattle.jsonptr_patch.specs.declared.operation.PatchError.{PatchError}
 use Rattle.jsonptr_command.proofs.OrderLemmas.{ascends_json}
 use Rattle.jsonptr_command.specs.JsonText.{json_of}
@@ -32,10 +36,10 @@ applies n (moving us ts) m = Moves n us ts m
 applies n (copying us ts) m = Copies n us ts m
 applies n (testing ts v) m = Passes n ts (nodes v) × (m ≡ n)
 
-refuses : NodeMap → ℕ → OperationData → PatchError → Type 0
+refuses : NodeMap → ℕ → OperationData → FailedOperation → Type 0
 refuses n k (adding ts v) e = RefusesAdd n k ts e
-refuses n k (removing ts) e = RefusesTarget n k ts e
-refuses n k (replacing ts v) e = RefusesTarget n k ts e
+refuses n k (removing ts) e = RefusesTarget n k pointer.Path ts e
+refuses n k (replacing ts v) e = RefusesTarget n k pointer.Path ts e
 refuses n k (moving us ts) e = RefusesMove n k us ts e
 refuses n k (copying us ts) e = RefusesCopy n k us ts e
 refuses n k (testing ts v) e = RefusesTest n k ts (nodes v) e
@@ -49,7 +53,7 @@ applies_data n m (operation.Move from path) = refl
 applies_data n m (operation.Copy from path) = refl
 applies_data n m (operation.Test path value) = refl
 
-refuses_data : (n : NodeMap) (k : ℕ) (o : Operation) (e : PatchError) → RefusesOperation n k o e ≡ refuses n k (data_of o) e
+refuses_data : (n : NodeMap) (k : ℕ) (o : Operation) (e : FailedOperation) → RefusesOperation n k o e ≡ refuses n k (data_of o) e
 unfolding refuses
 refuses_data n k (operation.Add path value) e = refl
 refuses_data n k (operation.Remove path) e = refl
@@ -63,7 +67,7 @@ applies_same n m o p same h =
     let is : Applies n o m ≡ Applies n p m = applies_data n m o ∙ ap (λ (x : OperationData). applies n x m) same ∙ sym (applies_data n m p) in
     subst (λ (T : Type 0). T) is h
 
-refuses_same : (n : NodeMap) (k : ℕ) (o p : Operation) (e : PatchError) → data_of o ≡ data_of p → RefusesOperation n k o e → RefusesOperation n k p e
+refuses_same : (n : NodeMap) (k : ℕ) (o p : Operation) (e : FailedOperation) → data_of o ≡ data_of p → RefusesOperation n k o e → RefusesOperation n k p e
 refuses_same n k o p e same h =
     let is : RefusesOperation n k o e ≡ RefusesOperation n k p e = refuses_data n k o e ∙ ap (λ (x : OperationData). refuses n k x e) same ∙ sym (refuses_data n k p e) in
     subst (λ (T : Type 0). T) is h
@@ -94,8 +98,8 @@ split_same (p ∷ ps) (d ∷ done) o rest same =
     (p ∷ r.0, r.1, r.2, ap (λ (l : List Operation). p ∷ l) r.3, ap₂ (λ (x : OperationData) (l : List OperationData). x ∷ l) first r.4, r.5)
 
 -- and fail alike
-pub refused_same : (n : NodeMap) (os ps : List Operation) (e : PatchError) → map data_of os ≡ map data_of ps → RefusesPatch n os e → RefusesPatch n ps e
-refused_same n os ps e same h =
+fails_same : (n : NodeMap) (os ps : List Operation) (e : FailedOperation) → map data_of os ≡ map data_of ps → FailsBy Strict n os e → FailsBy Strict n ps e
+fails_same n os ps e same h =
     let r = split_same ps h.done h.fails h.rest (ap (map data_of) (sym h.split) ∙ same) in
     let long : length h.done ≡ length r.0 = sym (length-map h.done data_of) ∙ ap (λ (l : List OperationData). length l) r.4 ∙ length-map r.0 data_of in
     record {
@@ -207,3 +211,6 @@ mean_in_order forms [] h = All-nil OperationHasSortedKeys
 mean_in_order [] (o ∷ os) h = absurd h
 mean_in_order (form ∷ forms) (o ∷ os) h =
     All-cons OperationHasSortedKeys o os (means_in_order form o h.0) (mean_in_order forms os h.1)
+
+pub refused_same : (n : NodeMap) (os ps : List Operation) (e : PatchError) → map data_of os ≡ map data_of ps → RefusesPatch n os e → RefusesPatch n ps e
+refused_same n os ps e same h = (h.0, fails_same n os ps (failed e h.0) same h.1)

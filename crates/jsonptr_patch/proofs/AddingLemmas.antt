@@ -27,7 +27,8 @@ use Rattle.jsonptr_walk.specs.PrivatePutting.{HasNoIndex}
 use Rattle.jsonptr_walk.proofs.AssignLemmas.{no_index_place, above_place}
 use Rattle.jsonptr_patch.specs.Adding.{LacksTarget, LacksPlace}
 use Rattle.jsonptr_patch.specs.Operating.{Takes, IsProperPrefix, RefusesAdd}
-use Rattle.jsonptr_patch.specs.PrivateAdding.{patch_error_at}
+use Rattle.jsonptr_patch.specs.Failing.{fault_at}
+use Rattle.jsonptr_patch.specs.declared.failed_operation.PatchPointer.TheVariants as pointer
 
 -- evaluating tokens that lead to a path does not fail
 pub named_refused : (n : NodeMap) (tokens : List Text) (w : Path) (e : ResolveError) → Names n tokens w → Refuses n tokens e → ⊥
@@ -113,7 +114,7 @@ parent_lacks n tokens front x e split r = (
 )
 
 -- so a fault of evaluating them, reported for an operation, is one of adding
-pub parent_refused : (T U : Type 0) (n : NodeMap) (k : ℕ) (fault : Fault ResolveError) (tokens front : List Text) (x : Text) → tokens ≡ front ++ x ∷ [] → IfRefused {T = T} (Err fault) (Refuses n front) → IfRefused {T = U} (Err (patch_error_at k fault)) (RefusesAdd n k tokens)
+pub parent_refused : (T U : Type 0) (n : NodeMap) (k : ℕ) (fault : Fault ResolveError) (tokens front : List Text) (x : Text) → tokens ≡ front ++ x ∷ [] → IfRefused {T = T} (Err fault) (Refuses n front) → IfRefused {T = U} (Err (fault_at k pointer.Path fault)) (RefusesAdd n k tokens)
 parent_refused T U n k (Refused e) tokens front x split r = inl (e, refl, parent_lacks n tokens front x e split r)
 parent_refused T U n k (Memory e) tokens front x split r = tt
 

@@ -12,7 +12,8 @@ use Rattle.jsonptr_patch.specs.Operating.{IsProperPrefix, Takes, Applies, Refuse
 use Rattle.jsonptr_patch.specs.Patching.{Patches}
 use Rattle.jsonptr_patch.specs.declared.operation.Operation.{Operation}
 use Rattle.jsonptr_patch.specs.declared.operation.Operation.TheVariants.{Add, Remove, Replace, Move, Copy, Test}
-use Rattle.jsonptr_patch.specs.declared.operation.PatchError.{PatchError}
+use Rattle.jsonptr_patch.specs.declared.failed_operation.FailedOperation.{FailedOperation}
+use Rattle.jsonptr_patch.specs.declared.failed_operation.PatchPointer.TheVariants as pointer
 use Rattle.jsonptr_patch.proofs.PatchLemmas.{patches_behind, patches_both}
 use Rattle.jsonptr_patch.specs.Apart.{AllDiverge, pointers, all_pointers, AreApart, PatchesAreApart}
 use Rattle.jsonptr_patch.proofs.MemberLemmas.{IsLocal, diverges_turned, local_swap, local_diamond, diverges_after}
@@ -251,17 +252,17 @@ take_parts by v n a b p xss yss xs at other d taken s =
     let d2 = local_diamond (λ n tokens m. Takes n tokens v m) (second_part by p s.value) (local_take v) g2 s.between d1.0 b xs (target p) (still xs (target p) at yj) d1.2 s.two in
     (d2.0, d2.2, record { value = s.value; between = d1.0; way = s.way; one = d1.1; two = d2.1 })
 
-refused_parts : (by : Comparison) (n b : NodeMap) (i : ℕ) (o p : Operation) (e : PatchError) (xss yss : List (List Text)) → AmongAll xss o → AmongAll yss p → AllDiverge n xss yss → InParts by n p b → RefusesOperationBy by n i o e → RefusesOperationBy by b i o e
+refused_parts : (by : Comparison) (n b : NodeMap) (i : ℕ) (o p : Operation) (e : FailedOperation) (xss yss : List (List Text)) → AmongAll xss o → AmongAll yss p → AllDiverge n xss yss → InParts by n p b → RefusesOperationBy by n i o e → RefusesOperationBy by b i o e
 refused_parts by n b i (Add path value) p e xss yss among other d s h = seen_parts by (λ n tokens. RefusesAdd n i tokens e) (seen_refuses_add i e) n b p xss yss path (among path (in_one path)) other d s h
-refused_parts by n b i (Remove path) p e xss yss among other d s h = seen_parts by (λ n tokens. RefusesTarget n i tokens e) (seen_refuses_target i e) n b p xss yss path (among path (in_one path)) other d s h
-refused_parts by n b i (Replace path value) p e xss yss among other d s h = seen_parts by (λ n tokens. RefusesTarget n i tokens e) (seen_refuses_target i e) n b p xss yss path (among path (in_one path)) other d s h
+refused_parts by n b i (Remove path) p e xss yss among other d s h = seen_parts by (λ n tokens. RefusesTarget n i pointer.Path tokens e) (seen_refuses_target i pointer.Path e) n b p xss yss path (among path (in_one path)) other d s h
+refused_parts by n b i (Replace path value) p e xss yss among other d s h = seen_parts by (λ n tokens. RefusesTarget n i pointer.Path tokens e) (seen_refuses_target i pointer.Path e) n b p xss yss path (among path (in_one path)) other d s h
 refused_parts by n b i (Move from path) p e xss yss among other d s (inl h) = inl h
-refused_parts by n b i (Move from path) p e xss yss among other d s (inr (way, inl h)) = inr (way, inl (seen_parts by (λ n tokens. RefusesTarget n i tokens e) (seen_refuses_target i e) n b p xss yss from (among from (in_first from path)) other d s h))
+refused_parts by n b i (Move from path) p e xss yss among other d s (inr (way, inl h)) = inr (way, inl (seen_parts by (λ n tokens. RefusesTarget n i pointer.From tokens e) (seen_refuses_target i pointer.From e) n b p xss yss from (among from (in_first from path)) other d s h))
 refused_parts by n b i (Move from path) p e xss yss among other d s (inr (way, inr h)) =
     let taken = take_parts by h.0 n h.1 b p xss yss from (among from (in_first from path)) other d h.2 s in
     let still = after_step (λ n tokens m. Takes n tokens h.0 m) (local_take h.0) n h.1 xss yss from (among from (in_first from path)) d h.2 in
     inr (way, inr (h.0, taken.0, taken.1, seen_parts by (λ n tokens. RefusesAdd n i tokens e) (seen_refuses_add i e) h.1 taken.0 p xss yss path (among path (in_second from path)) other still taken.2 h.3))
-refused_parts by n b i (Copy from path) p e xss yss among other d s (inl h) = inl (seen_parts by (λ n tokens. RefusesTarget n i tokens e) (seen_refuses_target i e) n b p xss yss from (among from (in_first from path)) other d s h)
+refused_parts by n b i (Copy from path) p e xss yss among other d s (inl h) = inl (seen_parts by (λ n tokens. RefusesTarget n i pointer.From tokens e) (seen_refuses_target i pointer.From e) n b p xss yss from (among from (in_first from path)) other d s h)
 refused_parts by n b i (Copy from path) p e xss yss among other d s (inr h) = inr (
   h.0,
   seen_parts by (λ n tokens. Finds n tokens h.0) (seen_finds h.0) n b p xss yss from (among from (in_first from path)) other d s h.1,
@@ -269,10 +270,10 @@ refused_parts by n b i (Copy from path) p e xss yss among other d s (inr h) = in
 )
 refused_parts by n b i (Test path value) p e xss yss among other d s h = seen_parts by (λ n tokens. RefusesTestBy by n i tokens (nodes (view value)) e) (seen_refuses_test by i (nodes (view value)) e) n b p xss yss path (among path (in_one path)) other d s h
 
-pub refused_applied : (by : Comparison) (n b : NodeMap) (i : ℕ) (o p : Operation) (e : PatchError) (xss yss : List (List Text)) → AmongAll xss o → AmongAll yss p → AllDiverge n xss yss → AppliesBy by n p b → RefusesOperationBy by n i o e → RefusesOperationBy by b i o e
+pub refused_applied : (by : Comparison) (n b : NodeMap) (i : ℕ) (o p : Operation) (e : FailedOperation) (xss yss : List (List Text)) → AmongAll xss o → AmongAll yss p → AllDiverge n xss yss → AppliesBy by n p b → RefusesOperationBy by n i o e → RefusesOperationBy by b i o e
 refused_applied by n b i o p e xss yss among other d h = refused_parts by n b i o p e xss yss among other d (parts_of by n p b h)
 
-pub apart_refused : (n b : NodeMap) (i : ℕ) (o p : Operation) (e : PatchError) → AreApart n o p → Applies n p b → RefusesOperation n i o e → RefusesOperation b i o e
+pub apart_refused : (n b : NodeMap) (i : ℕ) (o p : Operation) (e : FailedOperation) → AreApart n o p → Applies n p b → RefusesOperation n i o e → RefusesOperation b i o e
 apart_refused n b i o p e d = refused_applied Strict n b i o p e (pointers o) (pointers p) (λ xs i. i) (λ ys i. i) d
 
 -- two patches

@@ -20,7 +20,7 @@ use Rattle.jsonptr_patch.specs.PrivateInverse.{AppendsBack, AppendsBackOf, IsPla
 use Rattle.jsonptr_patch.specs.PrivateLater.{paths_of, removals, IsPending, TakesPlace, Frees}
 use Rattle.jsonptr_patch.specs.declared.later.Later.{Later}
 use Rattle.jsonptr_patch.specs.declared.operation.Operation.{Operation}
-use Rattle.jsonptr_patch.specs.declared.operation.PatchError.{PatchError}
+use Rattle.jsonptr_patch.specs.declared.failed_operation.FailedOperation.{FailedOperation}
 use Rattle.jsonptr_patch.specs.declared.operation.Operation.TheVariants.{Add, Remove, Replace, Move, Copy, Test}
 use Rattle.jsonptr_patch.proofs.ApartLemmas.{after_applied}
 use Rattle.jsonptr_patch.proofs.InverseLemmas.{gone_nothing}
@@ -93,7 +93,7 @@ back_later d n (Copy from path) back ls h a b = (b.0, b.1, seen_later (λ n ts. 
 back_later d n (Test path value) back ls h a b = b
 
 -- an operation that fails, and is no test, fails however tests compare
-pub change_refused : (by : Comparison) (n : NodeMap) (i : ℕ) (o : Operation) (e : PatchError) → RefusesChange n i o e → RefusesOperationBy by n i o e
+pub change_refused : (by : Comparison) (n : NodeMap) (i : ℕ) (o : Operation) (e : FailedOperation) → RefusesChange n i o e → RefusesOperationBy by n i o e
 change_refused by n i (Add path value) e r = r
 change_refused by n i (Remove path) e r = r
 change_refused by n i (Replace path value) e r = r
@@ -145,7 +145,7 @@ place_way n from path place d (inr e) f = ⊎_elim
     clash i h = cc
 
 -- and if nothing can be added without the value, nothing can with it
-pub way_add_refused : (n : NodeMap) (i : ℕ) (from path : List Text) (w : Path) (e : PatchError) → Diverges n from path → Names n from w → RefusesAdd n i path e → RefusesMove n i from path e
+pub way_add_refused : (n : NodeMap) (i : ℕ) (from path : List Text) (w : Path) (e : FailedOperation) → Diverges n from path → Names n from w → RefusesAdd n i path e → RefusesMove n i from path e
 way_add_refused n i from path w e d named r =
     let t = named_takes n from path w d named in
     inr (diverges_way n from path d, inr (t.0, t.1, t.2, seen_after (λ n ts m. Takes n ts t.0 m) (local_take t.0) (λ n ts. RefusesAdd n i ts e) (seen_refuses_add i e) n t.1 path from (diverges_turned n from path d) t.2 r))
@@ -181,7 +181,7 @@ not_reversed n from path (Test p value) nowhere above back r = absurd r
 
 -- the same for the pointers of an operation
 
-pub copy_add_refused : (n : NodeMap) (i : ℕ) (f p from path : List Text) (w : Path) (e : PatchError) → f ≡ from → p ≡ path → Names n f w → RefusesAdd n i p e → RefusesCopy n i from path e
+pub copy_add_refused : (n : NodeMap) (i : ℕ) (f p from path : List Text) (w : Path) (e : FailedOperation) → f ≡ from → p ≡ path → Names n f w → RefusesAdd n i p e → RefusesCopy n i from path e
 copy_add_refused n i f p from path w e is_from is_path named r = inr (
   sub n w,
   record { path = w; named = subst (λ (ts : List Text). Names n ts w) is_from named; below = refl },

@@ -5,12 +5,14 @@ use Rattle.serde_json.specs.Find.{as_integer}
 use Rattle.serde_json.specs.View.{view}
 use Rattle.jsonptr.specs.Node.{Scalar, of_json, Label, an_object, an_array, a_leaf, NodeMap}
 use Rattle.jsonptr.specs.Json.{nodes}
+use Rattle.jsonptr_patch.specs.Failing.{failed}
 use Rattle.jsonptr_patch.specs.Operating.{Applies, AppliesBy, RefusesOperation, RefusesOperationBy}
-use Rattle.jsonptr_patch.specs.Patching.{Patches, PatchesBy, RefusesPatch, RefusesPatchBy}
+use Rattle.jsonptr_patch.specs.Patching.{Patches, PatchesBy, FailsBy, RefusesPatch, RefusesPatchBy}
 use Rattle.jsonptr_patch.specs.Testing.{whole, SameReading, NumericallyEqual, SameNodeBy, IsEqual, IsEqualBy, HasFloat}
 use Rattle.jsonptr_patch.specs.declared.comparison.Comparison.TheVariants.{Strict, Numeric}
 use Rattle.jsonptr_patch.specs.declared.operation.Operation.{Operation}
 use Rattle.jsonptr_patch.specs.declared.operation.Operation.TheVariants.{Add, Remove, Replace, Move, Copy, Test}
+use Rattle.jsonptr_patch.specs.declared.failed_operation.FailedOperation.{FailedOperation}
 use Rattle.jsonptr_patch.specs.declared.operation.PatchError.{PatchError}
 use Rattle.jsonptr_patch.specs.declared.operation.PatchError.TheVariants.{TestFloat}
 use Rattle.jsonptr_patch.proofs.NumberLemmas.{integers_equal, whole_numbers}
@@ -97,18 +99,18 @@ pub numeric_patches : (n m : NodeMap) (os : List Operation) → Patches n os m �
 numeric_patches n m [] h = h
 numeric_patches n m (o ∷ os) h = (h.0, numeric_applies n h.0 o h.1, numeric_patches h.0 m os h.2)
 
-numeric_refuses : (n : NodeMap) (i : ℕ) (o : Operation) (e : PatchError) → RefusesOperation n i o e → ((k : ℕ) → e ≡ TestFloat k → ⊥) → RefusesOperationBy Numeric n i o e
+numeric_refuses : (n : NodeMap) (i : ℕ) (o : Operation) (e : FailedOperation) → RefusesOperation n i o e → ((k : ℕ) → e.error ≡ TestFloat k → ⊥) → RefusesOperationBy Numeric n i o e
 numeric_refuses n i (Add path value) e r other = r
 numeric_refuses n i (Remove path) e r other = r
 numeric_refuses n i (Replace path value) e r other = r
 numeric_refuses n i (Move from path) e r other = r
 numeric_refuses n i (Copy from path) e r other = r
 numeric_refuses n i (Test path value) e (inl r) other = inl r
-numeric_refuses n i (Test path value) e (inr (inl r)) other = absurd (other i r.0)
+numeric_refuses n i (Test path value) e (inr (inl r)) other = absurd (other i (ap (λ (f : FailedOperation). f.error) r.0))
 numeric_refuses n i (Test path value) e (inr (inr r)) other = inr (r.0, r.1, r.2.found, λ same. r.3 (plain_equal r.1 (nodes (view value)) r.2.target_plain r.2.value_plain same))
 
-pub numeric_refused : (n : NodeMap) (os : List Operation) (e : PatchError) → RefusesPatch n os e → ((k : ℕ) → e ≡ TestFloat k → ⊥) → RefusesPatchBy Numeric n os e
-numeric_refused n os e r other = record {
+pub numeric_fails : (n : NodeMap) (os : List Operation) (e : FailedOperation) → FailsBy Strict n os e → ((k : ℕ) → e.error ≡ TestFloat k → ⊥) → FailsBy Numeric n os e
+numeric_fails n os e r other = record {
   done = r.done;
   fails = r.fails;
   rest = r.rest;
@@ -117,3 +119,6 @@ numeric_refused n os e r other = record {
   applied = numeric_patches n r.left r.done r.applied;
   refused = numeric_refuses r.left (length r.done) r.fails e r.refused other;
 }
+
+pub numeric_refused : (n : NodeMap) (os : List Operation) (e : PatchError) → RefusesPatch n os e → ((k : ℕ) → e ≡ TestFloat k → ⊥) → RefusesPatchBy Numeric n os e
+numeric_refused n os e r other = (r.0, numeric_fails n os (failed e r.0) r.1 other)

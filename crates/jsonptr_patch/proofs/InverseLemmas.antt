@@ -36,7 +36,7 @@ use Rattle.jsonptr_patch.specs.declared.operation.Operation.TheVariants.{Add, Re
 use Rattle.jsonptr_patch.proofs.InsertingLemmas.{with_place-same, with_place-root, without-with}
 use Rattle.jsonptr_patch.proofs.LevelLemmas.{local_take, local_add}
 use Rattle.jsonptr_patch.proofs.MemberLemmas.{diverges_turned, diverges_after, diverges_way, local_swap}
-use Rattle.jsonptr_patch.proofs.OneLemmas.{adds_one, takes_tree, applies_one, applies_tree}
+use Rattle.jsonptr_patch.proofs.OneLemmas.{no_last, adds_one, takes_tree, applies_one, applies_tree}
 use Rattle.jsonptr_patch.proofs.PartLemmas.{restoring}
 use Rattle.jsonptr_patch.proofs.PatchLemmas.{patches_both}
 use Rattle.jsonptr_patch.proofs.RestoringLemmas.{restored}
@@ -189,10 +189,6 @@ new_element n m v tokens element some a h =
 no_name : (n : NodeMap) (w : Path) → Names n [] w → w ≡ []
 no_name n [] h = refl
 no_name n (s ∷ w) h = absurd h
-
-no_last : (front : List Text) (x : Text) → [] ≡ front ++ x ∷ [] → ⊥
-no_last [] x e = cc
-no_last (t ∷ front) x e = cc
 
 old_whole : (n m v old : NodeMap) (tokens : List Text) → IsSome (v []) → tokens ≡ [] → m ≡ v → Finds n tokens old → PutsAt m tokens old n
 old_whole n m v old tokens some root made found =

@@ -34,14 +34,15 @@ use Rattle.jsonptr_patch.specs.Adding.{Adds}
 use Rattle.jsonptr_patch.specs.Apart.{Diverges, AllDiverge, pointers}
 use Rattle.jsonptr_patch.specs.Inverse.{HasObject}
 use Rattle.jsonptr_patch.specs.Operating.{Takes, Moves, Applies, RefusesTarget, RefusesAdd, RefusesMove, RefusesOperation, AppliesBy, RefusesOperationBy}
-use Rattle.jsonptr_patch.specs.Patching.{Patches, PatchesBy, RefusesPatchBy}
+use Rattle.jsonptr_patch.specs.Patching.{Patches, PatchesBy, FailsBy}
 use Rattle.jsonptr_patch.specs.PrivateRecording.{Records}
 use Rattle.jsonptr_patch.specs.Memory.{TestNeedsNoMemory}
 use Rattle.jsonptr_patch.specs.PrivateLater.{paths_of, removals, IsKept, IsReached, AreScattered, IsPending, IsObjectAt, IsMemberAt, Forks, CanWait}
 use Rattle.jsonptr_patch.specs.declared.later.Later.{Later}
 use Rattle.jsonptr_patch.specs.declared.operation.Operation.{Operation}
 use Rattle.jsonptr_patch.specs.declared.operation.Operation.TheVariants.{Add, Remove, Replace, Move, Copy, Test}
-use Rattle.jsonptr_patch.specs.declared.operation.PatchError.{PatchError}
+use Rattle.jsonptr_patch.specs.declared.failed_operation.FailedOperation.{FailedOperation}
+use Rattle.jsonptr_patch.specs.declared.failed_operation.PatchPointer.TheVariants as pointer
 use Rattle.jsonptr_patch.proofs.ApartLemmas.{AmongAll, all_turned, after_applied, diamond_applied, refused_applied, seen_applied}
 use Rattle.jsonptr_patch.proofs.MemberLemmas.{diverges_turned, diverges_after, diverges_way, local_diamond}
 use Rattle.jsonptr_patch.proofs.LevelLemmas.{local_take, local_put, local_add}
@@ -99,7 +100,7 @@ removed_after by d e n o xss (l ∷ ls) among h a r =
     let rest = removed_after by r.0 m.0 n o xss ls among (after_removal d r.0 l.path xss (paths_of ls) h r.1) m.2 r.2 in
     (rest.0, rest.1, (m.0, m.1, rest.2))
 
-pub refused_later : (by : Comparison) (d n : NodeMap) (i : ℕ) (o : Operation) (e : PatchError) (xss : List (List Text)) (ls : List Later) → AmongAll xss o → AllDiverge d xss (paths_of ls) → RefusesOperationBy by d i o e → Patches d (removals ls) n → RefusesOperationBy by n i o e
+pub refused_later : (by : Comparison) (d n : NodeMap) (i : ℕ) (o : Operation) (e : FailedOperation) (xss : List (List Text)) (ls : List Later) → AmongAll xss o → AllDiverge d xss (paths_of ls) → RefusesOperationBy by d i o e → Patches d (removals ls) n → RefusesOperationBy by n i o e
 refused_later by d n i o e xss [] among h a r = subst (λ (z : NodeMap). RefusesOperationBy by z i o e) (sym r) a
 refused_later by d n i o e xss (l ∷ ls) among h a r = refused_later by r.0 n i o e xss ls among (after_removal d r.0 l.path xss (paths_of ls) h r.1) (refused_applied by d r.0 i o (Remove l.path) e xss (l.path ∷ paths_of ls) among (removes_own l.path (paths_of ls)) h r.1 a) r.2
 
@@ -137,7 +138,7 @@ pending_after by d e n o ls h a p =
     let r = removed_after by d e n o (pointers o) ls (λ xs i. i) h a p.removed in
     (r.0, r.1, record { removed = r.2; scattered = scattered_after by d e o (pointers o) ls (λ xs i. i) h a p.scattered })
 
-pub pending_refused : (by : Comparison) (d n : NodeMap) (i : ℕ) (o : Operation) (e : PatchError) (ls : List Later) → AllDiverge d (pointers o) (paths_of ls) → IsPending d ls n → RefusesOperationBy by d i o e → RefusesOperationBy by n i o e
+pub pending_refused : (by : Comparison) (d n : NodeMap) (i : ℕ) (o : Operation) (e : FailedOperation) (ls : List Later) → AllDiverge d (pointers o) (paths_of ls) → IsPending d ls n → RefusesOperationBy by d i o e → RefusesOperationBy by n i o e
 pending_refused by d n i o e ls h p a = refused_later by d n i o e (pointers o) ls (λ xs i. i) h a p.removed
 
 -- one more node
@@ -375,7 +376,7 @@ pending_move d e f n value path front x ls l is named h apart found puts added p
           (λ xs ys i j. after xs ys (Contains-append_left (l.path ∷ []) (path ∷ []) xs i) j),
     )
 
-pub pending_move_refused : (d e n : NodeMap) (i : ℕ) (from path front : List Text) (x : Text) (ls : List Later) (r : PatchError) → from ≡ front ++ x ∷ [] → AllDiverge d (from ∷ path ∷ []) (paths_of ls) → Diverges d from path → PutsAt d from (nodes (view Null)) e → IsPending d ls n → RefusesAdd e i path r → RefusesMove n i from path r
+pub pending_move_refused : (d e n : NodeMap) (i : ℕ) (from path front : List Text) (x : Text) (ls : List Later) (r : FailedOperation) → from ≡ front ++ x ∷ [] → AllDiverge d (from ∷ path ∷ []) (paths_of ls) → Diverges d from path → PutsAt d from (nodes (view Null)) e → IsPending d ls n → RefusesAdd e i path r → RefusesMove n i from path r
 pending_move_refused d e n i from path front x ls r is h apart puts p refused =
     let s = null_at d e n from path front x ls is h apart puts p in
     let next : RefusesAdd s.next i path r = seen_later (λ n tokens. RefusesAdd n i tokens r) (seen_refuses_add i r) e s.next path (from ∷ path ∷ []) ls (second_in from path) s.after refused s.removed in
@@ -406,7 +407,7 @@ waits_moved c d f value path w ls ps l member named reached h apart a added more
     let r = pending_move (nodes (view c)) (nodes (view d)) (nodes (view f)) n value path member.front member.last ls l member.split reached h apart found puts added p in
     (r.0, r.1, subst (λ (qs : List Later). IsPending (nodes (view f)) qs r.0) (sym more) r.2)
 
-pub waits_move_refused : (c d value : Value) (i : ℕ) (from path : List Text) (w : Path) (ls : List Later) (e : PatchError) → HasObject (nodes (view c)) from → Names (nodes (view c)) from w → AllDiverge (nodes (view c)) (from ∷ path ∷ []) (paths_of ls) → Diverges (nodes (view c)) from path → At w (ReplacesContent (contents_of value) (contents_of Null)) (contents_of c) (contents_of d) → RefusesAdd (nodes (view d)) i path e → (n : NodeMap) → IsPending (nodes (view c)) ls n → RefusesMove n i from path e
+pub waits_move_refused : (c d value : Value) (i : ℕ) (from path : List Text) (w : Path) (ls : List Later) (e : FailedOperation) → HasObject (nodes (view c)) from → Names (nodes (view c)) from w → AllDiverge (nodes (view c)) (from ∷ path ∷ []) (paths_of ls) → Diverges (nodes (view c)) from path → At w (ReplacesContent (contents_of value) (contents_of Null)) (contents_of c) (contents_of d) → RefusesAdd (nodes (view d)) i path e → (n : NodeMap) → IsPending (nodes (view c)) ls n → RefusesMove n i from path e
 waits_move_refused c d value i from path w ls e member named h apart a refused n p =
     pending_move_refused (nodes (view c)) (nodes (view d)) n i from path member.front member.last ls e member.split h apart (blank_puts w (contents_of value) c d from a named) p refused
 
@@ -433,7 +434,7 @@ alone_moved c d f g value v from path here m apart a added taken =
     let last : IsPending (nodes (view g)) [] r.0 = pending_pop (nodes (view f)) (nodes (view g)) r.0 (map_of v) l [] (map_of-IsTree (contents_of f)) r.2 (takes_node (path_of here) v (contents_of f) (contents_of g) from taken r.2.scattered.0) in
     subst (λ (k : NodeMap). Moves (nodes (view c)) from path k) last.removed r.1
 
-pub alone_refused : (c d value : Value) (i : ℕ) (from path : List Text) (here : Location) (e : PatchError) → IsMemberAt (nodes (view c)) from (path_of here) → Diverges (nodes (view c)) from path → At (path_of here) (ReplacesContent (contents_of value) (contents_of Null)) (contents_of c) (contents_of d) → RefusesAdd (nodes (view d)) i path e → RefusesMove (nodes (view c)) i from path e
+pub alone_refused : (c d value : Value) (i : ℕ) (from path : List Text) (here : Location) (e : FailedOperation) → IsMemberAt (nodes (view c)) from (path_of here) → Diverges (nodes (view c)) from path → At (path_of here) (ReplacesContent (contents_of value) (contents_of Null)) (contents_of c) (contents_of d) → RefusesAdd (nodes (view d)) i path e → RefusesMove (nodes (view c)) i from path e
 alone_refused c d value i from path here e m apart a refused = waits_move_refused c d value i from path (path_of here) [] e (member_object (nodes (view c)) from (path_of here) m) (member_named (contents_of c) a.old from (path_of here) m a.there) (none_diverges (nodes (view c)) (from ∷ path ∷ []) [] refl) apart a refused (nodes (view c)) (record { removed = refl; scattered = tt })
 
 -- one node after another
@@ -474,21 +475,21 @@ now_removed c d tokens ls h a n p =
 pub now_moved : (c d : Value) (from path : List Text) (ls : List Later) → AllDiverge (nodes (view c)) (from ∷ path ∷ []) (paths_of ls) → Moves (nodes (view c)) from path (nodes (view d)) → (n : NodeMap) → IsPending (nodes (view c)) ls n → (m : NodeMap) × Moves n from path m × IsPending (nodes (view d)) ls m
 now_moved c d from path ls h a n p = pending_after Strict (nodes (view c)) (nodes (view d)) n (Move from path) ls h a p
 
-pub now_move_refused : (c : Value) (i : ℕ) (from path : List Text) (ls : List Later) → AllDiverge (nodes (view c)) (from ∷ path ∷ []) (paths_of ls) → (e : PatchError) → RefusesMove (nodes (view c)) i from path e → (n : NodeMap) → IsPending (nodes (view c)) ls n → RefusesMove n i from path e
+pub now_move_refused : (c : Value) (i : ℕ) (from path : List Text) (ls : List Later) → AllDiverge (nodes (view c)) (from ∷ path ∷ []) (paths_of ls) → (e : FailedOperation) → RefusesMove (nodes (view c)) i from path e → (n : NodeMap) → IsPending (nodes (view c)) ls n → RefusesMove n i from path e
 now_move_refused c i from path ls h e a n p = pending_refused Strict (nodes (view c)) n i (Move from path) e ls h p a
 
 pub now_applied : (by : Comparison) (c d : Value) (o : Operation) (ls : List Later) → AllDiverge (nodes (view c)) (pointers o) (paths_of ls) → AppliesBy by (nodes (view c)) o (nodes (view d)) → (n : NodeMap) → IsPending (nodes (view c)) ls n → (m : NodeMap) × AppliesBy by n o m × IsPending (nodes (view d)) ls m
 now_applied by c d o ls h a n p = pending_after by (nodes (view c)) (nodes (view d)) n o ls h a p
 
-pub now_refused : (by : Comparison) (c : Value) (i : ℕ) (o : Operation) (ls : List Later) → AllDiverge (nodes (view c)) (pointers o) (paths_of ls) → (e : PatchError) → RefusesOperationBy by (nodes (view c)) i o e → (n : NodeMap) → IsPending (nodes (view c)) ls n → RefusesOperationBy by n i o e
+pub now_refused : (by : Comparison) (c : Value) (i : ℕ) (o : Operation) (ls : List Later) → AllDiverge (nodes (view c)) (pointers o) (paths_of ls) → (e : FailedOperation) → RefusesOperationBy by (nodes (view c)) i o e → (n : NodeMap) → IsPending (nodes (view c)) ls n → RefusesOperationBy by n i o e
 now_refused by c i o ls h e a n p = pending_refused by (nodes (view c)) n i o e ls h p a
 
-pub removed_refused : {T : Type 0} (c : Value) (i : ℕ) (tokens path : List Text) (ls : List Later) (r : Result T (Fault PatchError)) → tokens ≡ path → AllDiverge (nodes (view c)) (path ∷ []) (paths_of ls) → IfRefused r (RefusesTarget (nodes (view c)) i tokens) → IfRefused r (λ e. (n : NodeMap) → IsPending (nodes (view c)) ls n → RefusesOperation n i (Remove path) e)
-removed_refused c i tokens path ls r is h a = refused_all r (RefusesTarget (nodes (view c)) i path) (λ e. (n : NodeMap) → IsPending (nodes (view c)) ls n → RefusesOperation n i (Remove path) e)
+pub removed_refused : {T : Type 0} (c : Value) (i : ℕ) (tokens path : List Text) (ls : List Later) (r : Result T (Fault FailedOperation)) → tokens ≡ path → AllDiverge (nodes (view c)) (path ∷ []) (paths_of ls) → IfRefused r (RefusesTarget (nodes (view c)) i pointer.Path tokens) → IfRefused r (λ e. (n : NodeMap) → IsPending (nodes (view c)) ls n → RefusesOperation n i (Remove path) e)
+removed_refused c i tokens path ls r is h a = refused_all r (RefusesTarget (nodes (view c)) i pointer.Path path) (λ e. (n : NodeMap) → IsPending (nodes (view c)) ls n → RefusesOperation n i (Remove path) e)
     (λ e q n p. pending_refused Strict (nodes (view c)) n i (Remove path) e ls h p q)
-    (subst (λ (ts : List Text). IfRefused r (RefusesTarget (nodes (view c)) i ts)) is a)
+    (subst (λ (ts : List Text). IfRefused r (RefusesTarget (nodes (view c)) i pointer.Path ts)) is a)
 
-pub moved_refused : {T : Type 0} (c : Value) (i : ℕ) (f p from path : List Text) (ls : List Later) (r : Result T (Fault PatchError)) → f ≡ from → p ≡ path → IfRefused r (λ e. (n : NodeMap) → IsPending (nodes (view c)) ls n → RefusesMove n i f p e) → IfRefused r (λ e. (n : NodeMap) → IsPending (nodes (view c)) ls n → RefusesOperation n i (Move from path) e)
+pub moved_refused : {T : Type 0} (c : Value) (i : ℕ) (f p from path : List Text) (ls : List Later) (r : Result T (Fault FailedOperation)) → f ≡ from → p ≡ path → IfRefused r (λ e. (n : NodeMap) → IsPending (nodes (view c)) ls n → RefusesMove n i f p e) → IfRefused r (λ e. (n : NodeMap) → IsPending (nodes (view c)) ls n → RefusesOperation n i (Move from path) e)
 moved_refused c i f p from path ls r is_from is_path a =
     subst (λ (ts : List Text). IfRefused r (λ e. (n : NodeMap) → IsPending (nodes (view c)) ls n → RefusesMove n i from ts e)) is_path
     (subst (λ (ts : List Text). IfRefused r (λ e. (n : NodeMap) → IsPending (nodes (view c)) ls n → RefusesMove n i ts p e)) is_from a)
@@ -508,10 +509,10 @@ pub records_both : {T E : Type 0} (c d e : Value) (i j k : Journal) (r : Result 
 records_both c d e i j k (Ok t) one two = tt
 records_both c d e i j k (Err x) one two = λ was u. two was (one was u)
 
-pub refused_last : (by : Comparison) (n m : NodeMap) (os : List Operation) (o : Operation) (i : ℕ) (e : PatchError) → i ≡ length os → PatchesBy by n os m → RefusesOperationBy by m i o e → RefusesPatchBy by n (os ++ o ∷ []) e
+pub refused_last : (by : Comparison) (n m : NodeMap) (os : List Operation) (o : Operation) (i : ℕ) (e : FailedOperation) → i ≡ length os → PatchesBy by n os m → RefusesOperationBy by m i o e → FailsBy by n (os ++ o ∷ []) e
 refused_last by n m os o i e is done refused = refused_next by n m (os ++ o ∷ []) os [] o e refl done (subst (λ (k : ℕ). RefusesOperationBy by m k o e) is refused)
 
-pub refused_here : (by : Comparison) (n m : NodeMap) (all os rest : List Operation) (o : Operation) (i : ℕ) (e : PatchError) → os ++ o ∷ rest ≡ all → i ≡ length os → PatchesBy by n os m → RefusesOperationBy by m i o e → RefusesPatchBy by n all e
+pub refused_here : (by : Comparison) (n m : NodeMap) (all os rest : List Operation) (o : Operation) (i : ℕ) (e : FailedOperation) → os ++ o ∷ rest ≡ all → i ≡ length os → PatchesBy by n os m → RefusesOperationBy by m i o e → FailsBy by n all e
 refused_here by n m all os rest o i e split is done refused = refused_next by n m all os rest o e (sym split) done (subst (λ (k : ℕ). RefusesOperationBy by m k o e) is refused)
 
 -- one pointer
@@ -588,7 +589,7 @@ waits_applied by c n m (Move from path) w a = a
 waits_applied by c n m (Copy from path) w a = absurd w
 waits_applied by c n m (Test path value) w a = absurd w
 
-pub waits_refused : (by : Comparison) (c : Value) (n : NodeMap) (i : ℕ) (o : Operation) (e : PatchError) → CanWait (nodes (view c)) o → RefusesOperation n i o e → RefusesOperationBy by n i o e
+pub waits_refused : (by : Comparison) (c : Value) (n : NodeMap) (i : ℕ) (o : Operation) (e : FailedOperation) → CanWait (nodes (view c)) o → RefusesOperation n i o e → RefusesOperationBy by n i o e
 waits_refused by c n i (Add path value) e w r = absurd w
 waits_refused by c n i (Remove path) e w r = r
 waits_refused by c n i (Replace path value) e w r = absurd w

@@ -9,6 +9,7 @@ pub mod OneLemmas
 pub mod PartLemmas
 pub mod SomeLemmas
 pub mod PatchLemmas
+mod FailingLemmas
 pub mod EqualityLemmas
 pub mod ChangeMapLemmas
 pub mod ChangeOrderLemmas

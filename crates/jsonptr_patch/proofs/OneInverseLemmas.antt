@@ -15,7 +15,7 @@ use Rattle.jsonptr_patch.specs.Operating.{IsProperPrefix, AppliesBy, RestoresAt}
 use Rattle.jsonptr_patch.specs.declared.comparison.Comparison.{Comparison}
 use Rattle.jsonptr_patch.specs.declared.operation.Operation.{Operation}
 use Rattle.jsonptr_patch.specs.declared.operation.Operation.TheVariants.{Add, Remove, Replace, Move, Copy, Test}
-use Rattle.jsonptr_patch.proofs.OneLemmas.{last_one, place_one, takes_one, applies_one, applies_tree}
+use Rattle.jsonptr_patch.proofs.OneLemmas.{no_last, last_one, place_one, takes_one, applies_one, applies_tree}
 
 -- the parent is an object or an array
 
@@ -27,10 +27,6 @@ object_or_array n tokens element h e =
   where
     clash : (i : ℕ) → Some an_object ≡ Some (an_array i) → ⊥
     clash i h = cc
-
-no_last : (front : List Text) (x : Text) → [] ≡ front ++ x ∷ [] → ⊥
-no_last [] x e = cc
-no_last (t ∷ front) x e = cc
 
 whole_or_array : (n : NodeMap) (tokens element : List Text) → (tokens ≡ []) ⊎ HasObject n tokens → IsElementAt n tokens element → ⊥
 whole_or_array n tokens element (inl h) e = no_last e.front e.last (sym h ∙ e.split)

@@ -27,8 +27,10 @@ use Rattle.jsonptr_patch.specs.Operating.{Takes, Moves, Compares, RefusesTarget,
 use Rattle.jsonptr_patch.specs.Testing.{IsEqualBy, IsEqual, HasFloat}
 use Rattle.jsonptr_patch.specs.declared.operation.Operation.{Operation}
 use Rattle.jsonptr_patch.specs.declared.operation.Operation.TheVariants.{Add, Remove, Replace, Move, Copy, Test}
-use Rattle.jsonptr_patch.specs.declared.operation.PatchError.{PatchError}
-use Rattle.jsonptr_patch.specs.declared.operation.PatchError.TheVariants.{NoTarget, BadPlace}
+use Rattle.jsonptr_patch.specs.declared.failed_operation.FailedOperation.{FailedOperation}
+use Rattle.jsonptr_patch.specs.declared.failed_operation.PatchPointer.{PatchPointer}
+use Rattle.jsonptr_patch.specs.declared.failed_operation.PatchPointer.TheVariants as pointer
+use Rattle.jsonptr_patch.specs.Failing.{no_target, bad_place}
 use Rattle.jsonptr_patch.proofs.InsertingLemmas.{IsTree-with_place, IsListed-with_place}
 use Rattle.jsonptr_tree.proofs.AssigningLemmas.{Assigns_named, Assigns_object, Assigns-tree}
 use Rattle.jsonptr_patch.proofs.AddingLemmas.{named_refused, cases_member}
@@ -37,7 +39,7 @@ use Rattle.jsonptr_patch.specs.declared.comparison.Comparison.TheVariants.{Stric
 
 -- the last token of a list
 
-no_last : (front : List Text) (x : Text) → [] ≡ front ++ x ∷ [] → ⊥
+pub no_last : (front : List Text) (x : Text) → [] ≡ front ++ x ∷ [] → ⊥
 no_last [] x e = cc
 no_last (t ∷ front) x e = cc
 
@@ -143,7 +145,7 @@ adds_lacks_place n tokens v m e tree (inr a) r =
     let means = under_array n a.path (n a.path) a.last v m b.len array a.made in
     place_stops n tokens a.front a.last a.path b.len means.0 e tree a.split a.named array means.1 r.1
 
-pub adds_refused : (n : NodeMap) (k : ℕ) (tokens : List Text) (v m : NodeMap) (e : PatchError) → IsTree n → Adds n tokens v m → RefusesAdd n k tokens e → ⊥
+pub adds_refused : (n : NodeMap) (k : ℕ) (tokens : List Text) (v m : NodeMap) (e : FailedOperation) → IsTree n → Adds n tokens v m → RefusesAdd n k tokens e → ⊥
 adds_refused n k tokens v m e tree a (inl r) = adds_lacks_target n tokens v m a r.2.0
 adds_refused n k tokens v m e tree a (inr r) = adds_lacks_place n tokens v m r.0 tree a r.2
 
@@ -160,12 +162,12 @@ target_or_place n tokens a b =
 -- the two causes are equal
 
 module _ (resolve_one : (n : NodeMap) (tokens : List Text) (e f : ResolveError) → Refuses n tokens e → Refuses n tokens f → e ≡ f) (assign_one : (n : NodeMap) (tokens : List Text) (e f : AssignError) → RefusesAssign n tokens e → RefusesAssign n tokens f → e ≡ f) where
-  pub target_one : (n : NodeMap) (k : ℕ) (tokens : List Text) (e f : PatchError) → RefusesTarget n k tokens e → RefusesTarget n k tokens f → e ≡ f
-  target_one n k tokens e f a b = a.1 ∙ ap (NoTarget k) (resolve_one n tokens a.0 b.0 a.2 b.2) ∙ sym b.1
+  pub target_one : {at : PatchPointer} (n : NodeMap) (k : ℕ) (tokens : List Text) (e f : FailedOperation) → RefusesTarget n k at tokens e → RefusesTarget n k at tokens f → e ≡ f
+  target_one {at} n k tokens e f a b = a.1 ∙ ap (no_target k at) (resolve_one n tokens a.0 b.0 a.2 b.2) ∙ sym b.1
 
-  pub add_one : (n : NodeMap) (k : ℕ) (tokens : List Text) (e f : PatchError) → RefusesAdd n k tokens e → RefusesAdd n k tokens f → e ≡ f
-  add_one n k tokens e f (inl a) (inl b) = a.1 ∙ ap (NoTarget k) (resolve_one n tokens a.0 b.0 a.2.1 b.2.1) ∙ sym b.1
-  add_one n k tokens e f (inr a) (inr b) = a.1 ∙ ap (BadPlace k) (assign_one n tokens a.0 b.0 a.2.1 b.2.1) ∙ sym b.1
+  pub add_one : (n : NodeMap) (k : ℕ) (tokens : List Text) (e f : FailedOperation) → RefusesAdd n k tokens e → RefusesAdd n k tokens f → e ≡ f
+  add_one n k tokens e f (inl a) (inl b) = a.1 ∙ ap (no_target k pointer.Path) (resolve_one n tokens a.0 b.0 a.2.1 b.2.1) ∙ sym b.1
+  add_one n k tokens e f (inr a) (inr b) = a.1 ∙ ap (bad_place k) (assign_one n tokens a.0 b.0 a.2.1 b.2.1) ∙ sym b.1
   add_one n k tokens e f (inl a) (inr b) = absurd (target_or_place n tokens a.2.0 b.2.0)
   add_one n k tokens e f (inr a) (inl b) = absurd (target_or_place n tokens b.2.0 a.2.0)
 
@@ -174,8 +176,8 @@ module _ (resolve_one : (n : NodeMap) (tokens : List Text) (e f : ResolveError) 
 pub takes_one : (n : NodeMap) (tokens : List Text) (v u m k : NodeMap) → IsTree n → Takes n tokens v m → Takes n tokens u k → (v ≡ u) × (m ≡ k)
 takes_one n tokens v u m k tree a b = (Finds_one n tokens v u a.found b.found, Deletes_one n (nodes null) tokens m k tree a.left b.left)
 
-found_refused : (n : NodeMap) (tokens : List Text) (m : NodeMap) (k : ℕ) (e : PatchError) → Finds n tokens m → RefusesTarget n k tokens e → ⊥
-found_refused n tokens m k e f h = named_refused n tokens f.path h.0 f.named h.2
+found_refused : {at : PatchPointer} (n : NodeMap) (tokens : List Text) (m : NodeMap) (k : ℕ) (e : FailedOperation) → Finds n tokens m → RefusesTarget n k at tokens e → ⊥
+found_refused {at} n tokens m k e f h = named_refused n tokens f.path h.0 f.named h.2
 
 -- documents
 
@@ -211,7 +213,7 @@ applies_one by n m l (Copy from path) tree a b =
     adds_one n path b.node m l (subst (λ (q : NodeMap). Adds n path q m) same a.added) b.added
 applies_one by n m l (Test path value) tree a b = a.1 ∙ sym b.1
 
-test_refused : (by : Comparison) (n : NodeMap) (k : ℕ) (tokens : List Text) (v : NodeMap) (e : PatchError) → PassesBy by n tokens v → RefusesTestBy by n k tokens v e → ⊥
+test_refused : (by : Comparison) (n : NodeMap) (k : ℕ) (tokens : List Text) (v : NodeMap) (e : FailedOperation) → PassesBy by n tokens v → RefusesTestBy by n k tokens v e → ⊥
 test_refused Strict n k tokens v e a (inl h) = named_refused n tokens a.1.found.path h.0 a.1.found.named h.2
 test_refused Strict n k tokens v e a (inr (inl h)) =
     let same = Finds_one n tokens h.1 a.0 h.2 a.1.found in
@@ -224,18 +226,18 @@ test_refused Numeric n k tokens v e a (inr h) =
     let same = Finds_one n tokens h.1 a.0 h.2 a.1 in
     h.3 (subst (λ (q : NodeMap). IsEqualBy Numeric q v) (sym same) a.2)
 
-move_refused : (n m : NodeMap) (k : ℕ) (from path : List Text) (e : PatchError) → IsTree n → Moves n from path m → RefusesMove n k from path e → ⊥
+move_refused : (n m : NodeMap) (k : ℕ) (from path : List Text) (e : FailedOperation) → IsTree n → Moves n from path m → RefusesMove n k from path e → ⊥
 move_refused n m k from path e tree a (inl h) = a.apart h.1
 move_refused n m k from path e tree a (inr h) = go h.1
   where
-    go : RefusesTarget n k from e ⊎ ((node left : NodeMap) × Takes n from node left × RefusesAdd left k path e) → ⊥
+    go : RefusesTarget n k pointer.From from e ⊎ ((node left : NodeMap) × Takes n from node left × RefusesAdd left k path e) → ⊥
     go (inl i) = found_refused n from a.node k e a.taken.found i
     go (inr i) =
         let same = takes_one n from a.node i.0 a.left i.1 tree a.taken i.2 in
         let left_tree = (takes_tree n from i.0 i.1 tree i.2).1 in
         adds_refused i.1 k path a.node m e left_tree (subst (λ (q : NodeMap). Adds q path a.node m) same.1 a.added) i.3
 
-pub applies_refused : (by : Comparison) (n m : NodeMap) (k : ℕ) (o : Operation) (e : PatchError) → IsTree n → AppliesBy by n o m → RefusesOperationBy by n k o e → ⊥
+pub applies_refused : (by : Comparison) (n m : NodeMap) (k : ℕ) (o : Operation) (e : FailedOperation) → IsTree n → AppliesBy by n o m → RefusesOperationBy by n k o e → ⊥
 applies_refused by n m k (Add path value) e tree a h = adds_refused n k path (nodes (view value)) m e tree a h
 applies_refused by n m k (Remove path) e tree a h = found_refused n path a.0 k e a.1.found h
 applies_refused by n m k (Replace path value) e tree a h = named_refused n path a.path h.0 a.named h.2
@@ -252,7 +254,7 @@ float_and_plain n tokens v t u f h c =
     ⊎_elim (λ (g : HasFloat t). c.target_plain (subst HasFloat same g)) (λ (g : HasFloat v). c.value_plain g) h
 
 module _ (resolve_one : (n : NodeMap) (tokens : List Text) (e f : ResolveError) → Refuses n tokens e → Refuses n tokens f → e ≡ f) (assign_one : (n : NodeMap) (tokens : List Text) (e f : AssignError) → RefusesAssign n tokens e → RefusesAssign n tokens f → e ≡ f) where
-  test_one : (by : Comparison) (n : NodeMap) (k : ℕ) (tokens : List Text) (v : NodeMap) (e f : PatchError) → RefusesTestBy by n k tokens v e → RefusesTestBy by n k tokens v f → e ≡ f
+  test_one : (by : Comparison) (n : NodeMap) (k : ℕ) (tokens : List Text) (v : NodeMap) (e f : FailedOperation) → RefusesTestBy by n k tokens v e → RefusesTestBy by n k tokens v f → e ≡ f
   test_one Strict n k tokens v e f (inl a) (inl b) = target_one resolve_one assign_one n k tokens e f a b
   test_one Strict n k tokens v e f (inl a) (inr (inl b)) = absurd (found_refused n tokens b.1 k e b.2 a)
   test_one Strict n k tokens v e f (inl a) (inr (inr b)) = absurd (found_refused n tokens b.1 k e b.2.found a)
@@ -267,13 +269,13 @@ module _ (resolve_one : (n : NodeMap) (tokens : List Text) (e f : ResolveError) 
   test_one Numeric n k tokens v e f (inr a) (inl b) = absurd (found_refused n tokens a.1 k f a.2 b)
   test_one Numeric n k tokens v e f (inr a) (inr b) = a.0 ∙ sym b.0
 
-  move_one : (n : NodeMap) (k : ℕ) (from path : List Text) (e f : PatchError) → IsTree n → RefusesMove n k from path e → RefusesMove n k from path f → e ≡ f
+  move_one : (n : NodeMap) (k : ℕ) (from path : List Text) (e f : FailedOperation) → IsTree n → RefusesMove n k from path e → RefusesMove n k from path f → e ≡ f
   move_one n k from path e f tree (inl h) (inl i) = h.0 ∙ sym i.0
   move_one n k from path e f tree (inl h) (inr i) = absurd (i.0 h.1)
   move_one n k from path e f tree (inr h) (inl i) = absurd (h.0 i.1)
   move_one n k from path e f tree (inr h) (inr i) = both h.1 i.1
     where
-      both : RefusesTarget n k from e ⊎ ((node left : NodeMap) × Takes n from node left × RefusesAdd left k path e) → RefusesTarget n k from f ⊎ ((node left : NodeMap) × Takes n from node left × RefusesAdd left k path f) → e ≡ f
+      both : RefusesTarget n k pointer.From from e ⊎ ((node left : NodeMap) × Takes n from node left × RefusesAdd left k path e) → RefusesTarget n k pointer.From from f ⊎ ((node left : NodeMap) × Takes n from node left × RefusesAdd left k path f) → e ≡ f
       both (inl a) (inl b) = target_one resolve_one assign_one n k from e f a b
       both (inl a) (inr b) = absurd (found_refused n from b.0 k e b.2.found a)
       both (inr a) (inl b) = absurd (found_refused n from a.0 k f a.2.found b)
@@ -281,13 +283,13 @@ module _ (resolve_one : (n : NodeMap) (tokens : List Text) (e f : ResolveError) 
           let same = takes_one n from a.0 b.0 a.1 b.1 tree a.2 b.2 in
           add_one resolve_one assign_one b.1 k path e f (subst (λ (q : NodeMap). RefusesAdd q k path e) same.1 a.3) b.3
 
-  copy_one : (n : NodeMap) (k : ℕ) (from path : List Text) (e f : PatchError) → RefusesCopy n k from path e → RefusesCopy n k from path f → e ≡ f
+  copy_one : (n : NodeMap) (k : ℕ) (from path : List Text) (e f : FailedOperation) → RefusesCopy n k from path e → RefusesCopy n k from path f → e ≡ f
   copy_one n k from path e f (inl a) (inl b) = target_one resolve_one assign_one n k from e f a b
   copy_one n k from path e f (inl a) (inr b) = absurd (found_refused n from b.0 k e b.1 a)
   copy_one n k from path e f (inr a) (inl b) = absurd (found_refused n from a.0 k f a.1 b)
   copy_one n k from path e f (inr a) (inr b) = add_one resolve_one assign_one n k path e f a.2 b.2
 
-  pub refused_one : (by : Comparison) (n : NodeMap) (k : ℕ) (o : Operation) (e f : PatchError) → IsTree n → RefusesOperationBy by n k o e → RefusesOperationBy by n k o f → e ≡ f
+  pub refused_one : (by : Comparison) (n : NodeMap) (k : ℕ) (o : Operation) (e f : FailedOperation) → IsTree n → RefusesOperationBy by n k o e → RefusesOperationBy by n k o f → e ≡ f
   refused_one by n k (Add path value) e f tree h i = add_one resolve_one assign_one n k path e f h i
   refused_one by n k (Remove path) e f tree h i = target_one resolve_one assign_one n k path e f h i
   refused_one by n k (Replace path value) e f tree h i = target_one resolve_one assign_one n k path e f h i

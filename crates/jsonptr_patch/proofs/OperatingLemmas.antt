@@ -14,30 +14,30 @@ use Rattle.jsonptr.specs.Node.{NodeMap}
 use Rattle.jsonptr.specs.Json.{nodes, FindsValue}
 use Rattle.jsonptr_tree.proofs.JsonLemmas.{FindsValue-Finds}
 use Rattle.jsonptr_patch.specs.Operating.{Takes, IsProperPrefix, Passes, PassesBy, Applies, AppliesBy, RefusesAdd, RefusesMove, RefusesTest, RefusesTestBy, RefusesOperationBy}
-use Rattle.jsonptr_patch.specs.Patching.{Patches, PatchesBy, RefusesPatchBy}
+use Rattle.jsonptr_patch.specs.Patching.{Patches, PatchesBy, FailsBy}
 use Rattle.jsonptr_patch.specs.PrivateTesting.{IsPlain, RefusesCompare, SameValue, SameValueBy, DiffersNumerically}
 use Rattle.jsonptr_patch.specs.declared.operation.Operation.{Operation}
-use Rattle.jsonptr_patch.specs.declared.operation.PatchError.{PatchError}
+use Rattle.jsonptr_patch.specs.declared.failed_operation.FailedOperation.{FailedOperation}
 use Rattle.jsonptr_patch.specs.declared.comparison.Comparison.{Comparison}
 use Rattle.jsonptr_patch.specs.declared.comparison.Comparison.TheVariants.{Strict, Numeric}
 
 -- tests
 
-pub test_passes : {T : Type 0} (d : Data) (tokens : List Text) (v w : Value) (r : Result T (Fault PatchError)) → FindsValue d tokens (view v) → IfOk r (λ _. IsPlain v × IsPlain w × SameValue v w) → IfOk r (λ _. Passes (nodes d) tokens (nodes (view w)))
+pub test_passes : {T : Type 0} (d : Data) (tokens : List Text) (v w : Value) (r : Result T (Fault FailedOperation)) → FindsValue d tokens (view v) → IfOk r (λ _. IsPlain v × IsPlain w × SameValue v w) → IfOk r (λ _. Passes (nodes d) tokens (nodes (view w)))
 test_passes d tokens v w (Ok t) found h = (nodes (view v), record { found = FindsValue-Finds d tokens (view v) found; target_plain = h.0; value_plain = h.1 }, h.2)
 test_passes d tokens v w (Err e) found h = tt
 
-pub test_refused : {T : Type 0} (d : Data) (k : ℕ) (tokens : List Text) (v w : Value) (r : Result T (Fault PatchError)) → FindsValue d tokens (view v) → IfRefused r (RefusesCompare k v w) → IfRefused r (RefusesTest (nodes d) k tokens (nodes (view w)))
+pub test_refused : {T : Type 0} (d : Data) (k : ℕ) (tokens : List Text) (v w : Value) (r : Result T (Fault FailedOperation)) → FindsValue d tokens (view v) → IfRefused r (RefusesCompare k v w) → IfRefused r (RefusesTest (nodes d) k tokens (nodes (view w)))
 test_refused d k tokens v w (Ok t) found h = tt
 test_refused d k tokens v w (Err (Memory e)) found h = tt
 test_refused d k tokens v w (Err (Refused e)) found (inl h) = inr (inl (h.0, nodes (view v), FindsValue-Finds d tokens (view v) found, h.1))
 test_refused d k tokens v w (Err (Refused e)) found (inr h) = inr (inr (h.0, nodes (view v), record { found = FindsValue-Finds d tokens (view v) found; target_plain = h.1; value_plain = h.2 }, h.3))
 
-pub test_passes_numerically : {T : Type 0} (d : Data) (tokens : List Text) (v w : Value) (r : Result T (Fault PatchError)) → FindsValue d tokens (view v) → IfOk r (λ _. SameValueBy Numeric v w) → IfOk r (λ _. PassesBy Numeric (nodes d) tokens (nodes (view w)))
+pub test_passes_numerically : {T : Type 0} (d : Data) (tokens : List Text) (v w : Value) (r : Result T (Fault FailedOperation)) → FindsValue d tokens (view v) → IfOk r (λ _. SameValueBy Numeric v w) → IfOk r (λ _. PassesBy Numeric (nodes d) tokens (nodes (view w)))
 test_passes_numerically d tokens v w (Ok t) found h = (nodes (view v), FindsValue-Finds d tokens (view v) found, h)
 test_passes_numerically d tokens v w (Err e) found h = tt
 
-pub test_refused_numerically : {T : Type 0} (d : Data) (k : ℕ) (tokens : List Text) (v w : Value) (r : Result T (Fault PatchError)) → FindsValue d tokens (view v) → IfRefused r (DiffersNumerically k v w) → IfRefused r (RefusesTestBy Numeric (nodes d) k tokens (nodes (view w)))
+pub test_refused_numerically : {T : Type 0} (d : Data) (k : ℕ) (tokens : List Text) (v w : Value) (r : Result T (Fault FailedOperation)) → FindsValue d tokens (view v) → IfRefused r (DiffersNumerically k v w) → IfRefused r (RefusesTestBy Numeric (nodes d) k tokens (nodes (view w)))
 test_refused_numerically d k tokens v w (Ok t) found h = tt
 test_refused_numerically d k tokens v w (Err (Memory e)) found h = tt
 test_refused_numerically d k tokens v w (Err (Refused e)) found h = inr (h.0, nodes (view v), FindsValue-Finds d tokens (view v) found, h.1)
@@ -53,7 +53,7 @@ pub patches_push : (n m k : NodeMap) (os : List Operation) (o : Operation) → P
 patches_push n m k os o h a = patches_push_by Strict n m k os o h a
 
 -- the next operation fails
-pub refused_next : (by : Comparison) (n m : NodeMap) (all os rest : List Operation) (o : Operation) (e : PatchError) → all ≡ os ++ o ∷ rest → PatchesBy by n os m → RefusesOperationBy by m (length os) o e → RefusesPatchBy by n all e
+pub refused_next : (by : Comparison) (n m : NodeMap) (all os rest : List Operation) (o : Operation) (e : FailedOperation) → all ≡ os ++ o ∷ rest → PatchesBy by n os m → RefusesOperationBy by m (length os) o e → FailsBy by n all e
 refused_next by n m all os rest o e split done refused = record {
   done = os;
   fails = o;
@@ -78,7 +78,7 @@ all_but_last P all os o h is = λ i d low.
     subst P same (h i d more)
 
 -- a list that fails also fails with more operations after it
-pub refused_longer : (by : Comparison) (n : NodeMap) (os more : List Operation) (e : PatchError) → RefusesPatchBy by n os e → RefusesPatchBy by n (os ++ more) e
+pub refused_longer : (by : Comparison) (n : NodeMap) (os more : List Operation) (e : FailedOperation) → FailsBy by n os e → FailsBy by n (os ++ more) e
 refused_longer by n os more e r = record {
   done = r.done;
   fails = r.fails;
@@ -114,8 +114,8 @@ refused_all (Ok t) P Q all h = tt
 refused_all (Err (Refused e)) P Q all h = all e h
 refused_all (Err (Memory e)) P Q all h = tt
 
-pub left_refused : (n node left : NodeMap) (k : ℕ) (from path : List Text) (e : PatchError) → (IsProperPrefix from path → ⊥) → Takes n from node left → RefusesAdd left k path e → RefusesMove n k from path e
+pub left_refused : (n node left : NodeMap) (k : ℕ) (from path : List Text) (e : FailedOperation) → (IsProperPrefix from path → ⊥) → Takes n from node left → RefusesAdd left k path e → RefusesMove n k from path e
 left_refused n node left k from path e apart taken h = inr (apart, inr (node, left, taken, h))
 
-pub way_refused : {T : Type 0} (n : NodeMap) (k : ℕ) (f p from path : List Text) (r : Result T (Fault PatchError)) → f ≡ from → p ≡ path → IfRefused r (RefusesMove n k f p) → IfRefused r (RefusesMove n k from path)
+pub way_refused : {T : Type 0} (n : NodeMap) (k : ℕ) (f p from path : List Text) (r : Result T (Fault FailedOperation)) → f ≡ from → p ≡ path → IfRefused r (RefusesMove n k f p) → IfRefused r (RefusesMove n k from path)
 way_refused {T} n k f p from path r is_from is_path h = subst (λ (q : List Text). IfRefused r (RefusesMove n k from q)) is_path (subst (λ (q : List Text). IfRefused r (RefusesMove n k q p)) is_from h)

@@ -15,7 +15,9 @@ use Rattle.jsonptr_patch.specs.Adding.{LacksParent, HasArray}
 use Rattle.jsonptr_patch.specs.Apart.{Diverges}
 use Rattle.jsonptr_patch.specs.Inverse.{HasObject, IsElementAt}
 use Rattle.jsonptr_patch.specs.Operating.{RefusesTarget, RefusesAdd, RefusesTestBy}
-use Rattle.jsonptr_patch.specs.declared.operation.PatchError.{PatchError}
+use Rattle.jsonptr_patch.specs.declared.failed_operation.FailedOperation.{FailedOperation}
+use Rattle.jsonptr_patch.specs.declared.failed_operation.PatchPointer.{PatchPointer}
+use Rattle.jsonptr_patch.specs.declared.failed_operation.PatchPointer.TheVariants as pointer
 use Rattle.jsonptr_patch.proofs.MemberLemmas.{IsLocal, put-other_member, Names-above, object-above, first_step, object_step, at_object, other_change}
 use Rattle.jsonptr_patch.proofs.LevelLemmas.{local_find}
 use Rattle.jsonptr_patch.specs.declared.comparison.Comparison.{Comparison}
@@ -150,8 +152,8 @@ seen_refuses_assign e n k front u x more r h = record {
   why = h.why;
 }
 
-pub seen_refuses_target : (i : ℕ) (e : PatchError) → IsSeen (λ n tokens. RefusesTarget n i tokens e)
-seen_refuses_target i e n k front u x more r h = (h.0, h.1, seen_refuses h.0 n k front u x more r h.2)
+pub seen_refuses_target : (i : ℕ) (at : PatchPointer) (e : FailedOperation) → IsSeen (λ n tokens. RefusesTarget n i at tokens e)
+seen_refuses_target i at e n k front u x more r h = (h.0, h.1, seen_refuses h.0 n k front u x more r h.2)
 
 pub no_end : (g : List Text) (x : Text) (more : List Text) → [] ≡ g ++ x ∷ more → ⊥
 no_end [] x more e = cc
@@ -290,7 +292,7 @@ seen_names_nothing n k front u x more r h w named =
     let back = named_below k n front u x (turned n k front u x r) more w named in
     h ((u ++ key x ∷ []) ++ back.0) back.2
 
-pub seen_refuses_add : (i : ℕ) (e : PatchError) → IsSeen (λ n tokens. RefusesAdd n i tokens e)
+pub seen_refuses_add : (i : ℕ) (e : FailedOperation) → IsSeen (λ n tokens. RefusesAdd n i tokens e)
 seen_refuses_add i e n k front u x more r (inl h) = inl (h.0, h.1, (seen_lacks_parent n k front u x more r h.2.0, seen_refuses h.0 n k front u x more r h.2.1))
 seen_refuses_add i e n k front u x more r (inr h) = inr (h.0, h.1, (seen_has_array n k front u x more r h.2.0, seen_refuses_assign h.0 n k front u x more r h.2.1))
 
@@ -303,8 +305,8 @@ seen_names w n k front u x more r h =
     let below = named_below n k front u x r more w h in
     subst (λ (p : Path). Names k (front ++ x ∷ more) p) (sym below.1) below.2
 
-pub seen_refuses_test : (by : Comparison) (i : ℕ) (v : NodeMap) (e : PatchError) → IsSeen (λ n tokens. RefusesTestBy by n i tokens v e)
-seen_refuses_test by i v e n k front u x more r (inl h) = inl (seen_refuses_target i e n k front u x more r h)
+pub seen_refuses_test : (by : Comparison) (i : ℕ) (v : NodeMap) (e : FailedOperation) → IsSeen (λ n tokens. RefusesTestBy by n i tokens v e)
+seen_refuses_test by i v e n k front u x more r (inl h) = inl (seen_refuses_target i pointer.Path e n k front u x more r h)
 seen_refuses_test Strict i v e n k front u x more r (inr (inl h)) = inr (inl (h.0, h.1, seen_finds h.1 n k front u x more r h.2, h.3))
 seen_refuses_test Strict i v e n k front u x more r (inr (inr h)) = inr (inr (h.0, h.1, record { found = seen_finds h.1 n k front u x more r h.2.found; target_plain = h.2.target_plain; value_plain = h.2.value_plain }, h.3))
 seen_refuses_test Numeric i v e n k front u x more r (inr h) = inr (h.0, h.1, seen_finds h.1 n k front u x more r h.2, h.3)

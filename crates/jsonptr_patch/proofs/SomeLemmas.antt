@@ -35,8 +35,10 @@ use Rattle.jsonptr_patch.specs.Operating.{Takes, IsProperPrefix, PassesBy, Appli
 use Rattle.jsonptr_patch.specs.Testing.{Reading, nothing, truth, words, whole, reading, SameReading, exact, NumericallyEqual, SameNumbers, SameScalarBy, SameNodeBy, IsEqualBy, IsEqual, HasFloat}
 use Rattle.jsonptr_patch.specs.declared.operation.Operation.{Operation}
 use Rattle.jsonptr_patch.specs.declared.operation.Operation.TheVariants.{Add, Remove, Replace, Move, Copy, Test}
-use Rattle.jsonptr_patch.specs.declared.operation.PatchError.{PatchError}
-use Rattle.jsonptr_patch.specs.declared.operation.PatchError.TheVariants.{NoTarget, BadPlace, MoveIntoSelf, TestFloat, TestFailed}
+use Rattle.jsonptr_patch.specs.declared.failed_operation.FailedOperation.{FailedOperation}
+use Rattle.jsonptr_patch.specs.declared.failed_operation.PatchPointer.{PatchPointer}
+use Rattle.jsonptr_patch.specs.declared.failed_operation.PatchPointer.TheVariants as pointer
+use Rattle.jsonptr_patch.specs.Failing.{no_target, bad_place, move_into_self, test_float, test_failed}
 use Rattle.jsonptr_patch.proofs.AddingLemmas.{nowhere, scalar_lacks, parent_lacks, place_lacks}
 use Rattle.jsonptr_patch.proofs.RestoringLemmas.{cases_token}
 use Rattle.jsonptr_patch.proofs.OneLemmas.{takes_tree}
@@ -253,9 +255,9 @@ AssignSome = (n : NodeMap) (tokens : List Text) (v : NodeMap) → IsTree n → A
 
 module _ (resolve_some : ResolveSome) (assign_some : AssignSome) where
   -- a value is added, or why not
-  adds_under : (n : NodeMap) (k : ℕ) (front : List Text) (x : Text) (v : NodeMap) (w : Path) (l : Label) → IsTree n → All IsUtf8 (front ++ x ∷ []) → Names n front w → n w ≡ Some l → ((m : NodeMap) × Adds n (front ++ x ∷ []) v m) ⊎ ((e : PatchError) × RefusesAdd n k (front ++ x ∷ []) e)
+  adds_under : (n : NodeMap) (k : ℕ) (front : List Text) (x : Text) (v : NodeMap) (w : Path) (l : Label) → IsTree n → All IsUtf8 (front ++ x ∷ []) → Names n front w → n w ≡ Some l → ((m : NodeMap) × Adds n (front ++ x ∷ []) v m) ⊎ ((e : FailedOperation) × RefusesAdd n k (front ++ x ∷ []) e)
   adds_under n k front x v w an_object tree utf8 named is = inl (put n (w ++ key x ∷ []) v, inr (record { front = front; last = x; path = w; split = refl; named = named; made = subst (λ (o : Option Label). AddsUnder n w o x v (put n (w ++ key x ∷ []) v)) (sym is) refl }))
-  adds_under n k front x v w (a_leaf a) tree utf8 named is = inr (NoTarget k (Unreachable (length front) (length (text front))), inl (_, refl, scalar_lacks n (front ++ x ∷ []) front x w a (length front) (length (text front)) refl named is refl refl))
+  adds_under n k front x v w (a_leaf a) tree utf8 named is = inr (no_target k pointer.Path (Unreachable (length front) (length (text front))), inl (_, refl, scalar_lacks n (front ++ x ∷ []) front x w a (length front) (length (text front)) refl named is refl refl))
   adds_under n k front x v w (an_array len) tree utf8 named is = ⊎_elim
       (λ (r : (i : ℕ) × (i < suc len) × (x ≡ dec i)). at r.0 (omega (arith, r.1), inl r.2))
       (λ (none : (i : ℕ) → i < suc len → x ≡ dec i → ⊥). ⊎_elim
@@ -264,88 +266,88 @@ module _ (resolve_some : ResolveSome) (assign_some : AssignSome) where
       (cases_text x (codes "-")))
       (cases_dec (suc len) x)
     where
-      at : (i : ℕ) → MeansPlace len x i → ((m : NodeMap) × Adds n (front ++ x ∷ []) v m) ⊎ ((e : PatchError) × RefusesAdd n k (front ++ x ∷ []) e)
+      at : (i : ℕ) → MeansPlace len x i → ((m : NodeMap) × Adds n (front ++ x ∷ []) v m) ⊎ ((e : FailedOperation) × RefusesAdd n k (front ++ x ∷ []) e)
       at i means = inl (put n w (with_place i v (sub n w)), inr (record { front = front; last = x; path = w; split = refl; named = named; made = subst (λ (o : Option Label). AddsUnder n w o x v (put n w (with_place i v (sub n w)))) (sym is) (i, means, refl) }))
 
-      lacks : HasNoIndex len x → ((m : NodeMap) × Adds n (front ++ x ∷ []) v m) ⊎ ((e : PatchError) × RefusesAdd n k (front ++ x ∷ []) e)
+      lacks : HasNoIndex len x → ((m : NodeMap) × Adds n (front ++ x ∷ []) v m) ⊎ ((e : FailedOperation) × RefusesAdd n k (front ++ x ∷ []) e)
       lacks none = ⊎_elim
           (λ (r : (m : NodeMap) × (old : Option NodeMap) × Assigns n (front ++ x ∷ []) v m old). absurd (Assigns-LandsNowhere n (front ++ x ∷ []) v r.0 r.1 (length front) (length (text front)) len x r.2 (nowhere n front x w len (length front) (length (text front)) named is none refl refl)))
-          (λ (r : (e : AssignError) × RefusesAssign n (front ++ x ∷ []) e). inr (BadPlace k r.0, inr (r.0, refl, place_lacks n front x w len r.0 named is r.1)))
+          (λ (r : (e : AssignError) × RefusesAssign n (front ++ x ∷ []) e). inr (bad_place k r.0, inr (r.0, refl, place_lacks n front x w len r.0 named is r.1)))
           (assign_some n (front ++ x ∷ []) v tree utf8)
 
-  pub adds_some : (n : NodeMap) (k : ℕ) (tokens : List Text) (v : NodeMap) → IsTree n → All IsUtf8 tokens → ((m : NodeMap) × Adds n tokens v m) ⊎ ((e : PatchError) × RefusesAdd n k tokens e)
+  pub adds_some : (n : NodeMap) (k : ℕ) (tokens : List Text) (v : NodeMap) → IsTree n → All IsUtf8 tokens → ((m : NodeMap) × Adds n tokens v m) ⊎ ((e : FailedOperation) × RefusesAdd n k tokens e)
   adds_some n k tokens v tree utf8 = go (cases_token tokens)
     where
-      below : (front : List Text) (x : Text) → All IsUtf8 (front ++ x ∷ []) → ((m : NodeMap) × Adds n (front ++ x ∷ []) v m) ⊎ ((e : PatchError) × RefusesAdd n k (front ++ x ∷ []) e)
+      below : (front : List Text) (x : Text) → All IsUtf8 (front ++ x ∷ []) → ((m : NodeMap) × Adds n (front ++ x ∷ []) v m) ⊎ ((e : FailedOperation) × RefusesAdd n k (front ++ x ∷ []) e)
       below front x all = ⊎_elim
           (λ (r : (m : NodeMap) × Finds n front m).
           let label = the_label (n r.1.path) (Names-here n front r.1.path r.1.named) in
           adds_under n k front x v r.1.path label.0 tree all r.1.named label.1)
-          (λ (r : (e : ResolveError) × Refuses n front e). inr (NoTarget k r.0, inl (r.0, refl, parent_lacks n (front ++ x ∷ []) front x r.0 refl r.1)))
+          (λ (r : (e : ResolveError) × Refuses n front e). inr (no_target k pointer.Path r.0, inl (r.0, refl, parent_lacks n (front ++ x ∷ []) front x r.0 refl r.1)))
           (resolve_some n front tree (utf8_front front x all))
 
-      go : (tokens ≡ []) ⊎ ((front : List Text) × (x : Text) × (tokens ≡ front ++ x ∷ [])) → ((m : NodeMap) × Adds n tokens v m) ⊎ ((e : PatchError) × RefusesAdd n k tokens e)
+      go : (tokens ≡ []) ⊎ ((front : List Text) × (x : Text) × (tokens ≡ front ++ x ∷ [])) → ((m : NodeMap) × Adds n tokens v m) ⊎ ((e : FailedOperation) × RefusesAdd n k tokens e)
       go (inl e) = inl (v, inl (e, refl))
-      go (inr r) = subst (λ (ts : List Text). ((m : NodeMap) × Adds n ts v m) ⊎ ((e : PatchError) × RefusesAdd n k ts e)) (sym r.2) (below r.0 r.1 (subst (λ (ts : List Text). All IsUtf8 ts) r.2 utf8))
+      go (inr r) = subst (λ (ts : List Text). ((m : NodeMap) × Adds n ts v m) ⊎ ((e : FailedOperation) × RefusesAdd n k ts e)) (sym r.2) (below r.0 r.1 (subst (λ (ts : List Text). All IsUtf8 ts) r.2 utf8))
 
-  takes_some : (n : NodeMap) (k : ℕ) (tokens : List Text) → IsTree n → All IsUtf8 tokens → ((v m : NodeMap) × Takes n tokens v m) ⊎ ((e : PatchError) × RefusesTarget n k tokens e)
-  takes_some n k tokens tree utf8 = ⊎_elim
+  takes_some : (n : NodeMap) (k : ℕ) (which : PatchPointer) (tokens : List Text) → IsTree n → All IsUtf8 tokens → ((v m : NodeMap) × Takes n tokens v m) ⊎ ((e : FailedOperation) × RefusesTarget n k which tokens e)
+  takes_some n k which tokens tree utf8 = ⊎_elim
       (λ (r : (m : NodeMap) × Finds n tokens m).
       let gone = Deletes-some n (nodes json.null) tokens tree in
       inl (r.0, gone.0, record { found = r.1; left = gone.1 }))
-      (λ (r : (e : ResolveError) × Refuses n tokens e). inr (NoTarget k r.0, (r.0, refl, r.1)))
+      (λ (r : (e : ResolveError) × Refuses n tokens e). inr (no_target k which r.0, (r.0, refl, r.1)))
       (resolve_some n tokens tree utf8)
 
-  tests_some : (by : Comparison) (n : NodeMap) (k : ℕ) (tokens : List Text) (v : NodeMap) → IsDocument n → IsListed v → All IsUtf8 tokens → PassesBy by n tokens v ⊎ ((e : PatchError) × RefusesTestBy by n k tokens v e)
+  tests_some : (by : Comparison) (n : NodeMap) (k : ℕ) (tokens : List Text) (v : NodeMap) → IsDocument n → IsListed v → All IsUtf8 tokens → PassesBy by n tokens v ⊎ ((e : FailedOperation) × RefusesTestBy by n k tokens v e)
   tests_some by n k tokens v document listed utf8 = ⊎_elim
       (λ (r : (m : NodeMap) × Finds n tokens m). found by r.0 r.1 (subst IsListed (sym r.1.below) (IsListed-sub n r.1.path document.1)))
-      (λ (r : (e : ResolveError) × Refuses n tokens e). inr (NoTarget k r.0, inl (r.0, refl, r.1)))
+      (λ (r : (e : ResolveError) × Refuses n tokens e). inr (no_target k pointer.Path r.0, inl (r.0, refl, r.1)))
       (resolve_some n tokens document.0 utf8)
     where
-      found : (by : Comparison) (t : NodeMap) → Finds n tokens t → IsListed t → PassesBy by n tokens v ⊎ ((e : PatchError) × RefusesTestBy by n k tokens v e)
+      found : (by : Comparison) (t : NodeMap) → Finds n tokens t → IsListed t → PassesBy by n tokens v ⊎ ((e : FailedOperation) × RefusesTestBy by n k tokens v e)
       found Strict t f finite = ⊎_elim
-          (λ (a : HasFloat t). inr (TestFloat k, inr (inl (refl, t, f, inl a))))
+          (λ (a : HasFloat t). inr (test_float k, inr (inl (refl, t, f, inl a))))
           (λ (a : HasFloat t → ⊥). ⊎_elim
-          (λ (b : HasFloat v). inr (TestFloat k, inr (inl (refl, t, f, inr b))))
+          (λ (b : HasFloat v). inr (test_float k, inr (inl (refl, t, f, inr b))))
           (λ (b : HasFloat v → ⊥). ⊎_elim
           (λ (s : IsEqual t v). inl (t, record { found = f; target_plain = a; value_plain = b }, s))
-          (λ (d : IsEqual t v → ⊥). inr (TestFailed k, inr (inr (refl, t, record { found = f; target_plain = a; value_plain = b }, d))))
+          (λ (d : IsEqual t v → ⊥). inr (test_failed k, inr (inr (refl, t, record { found = f; target_plain = a; value_plain = b }, d))))
           (cases_equal Strict t v finite listed))
           (cases_has_float v listed))
           (cases_has_float t finite)
       found Numeric t f finite = ⊎_elim
           (λ (s : IsEqualBy Numeric t v). inl (t, f, s))
-          (λ (d : IsEqualBy Numeric t v → ⊥). inr (TestFailed k, inr (refl, t, f, d)))
+          (λ (d : IsEqualBy Numeric t v → ⊥). inr (test_failed k, inr (refl, t, f, d)))
           (cases_equal Numeric t v finite listed)
 
-  pub applies_some : (by : Comparison) (n : NodeMap) (k : ℕ) (o : Operation) → IsDocument n → IsOperation o → ((m : NodeMap) × AppliesBy by n o m) ⊎ ((e : PatchError) × RefusesOperationBy by n k o e)
+  pub applies_some : (by : Comparison) (n : NodeMap) (k : ℕ) (o : Operation) → IsDocument n → IsOperation o → ((m : NodeMap) × AppliesBy by n o m) ⊎ ((e : FailedOperation) × RefusesOperationBy by n k o e)
   applies_some by n k (Add path value) document utf8 = adds_some n k path (nodes (view value)) document.0 utf8
   applies_some by n k (Remove path) document utf8 = ⊎_elim
       (λ (r : (v m : NodeMap) × Takes n path v m). inl (r.1, (r.0, r.2)))
-      (λ (r : (e : PatchError) × RefusesTarget n k path e). inr r)
-      (takes_some n k path document.0 utf8)
+      (λ (r : (e : FailedOperation) × RefusesTarget n k pointer.Path path e). inr r)
+      (takes_some n k pointer.Path path document.0 utf8)
   applies_some by n k (Replace path value) document utf8 = ⊎_elim
       (λ (r : (m : NodeMap) × Finds n path m). inl (put n r.1.path (nodes (view value)), record { path = r.1.path; named = r.1.named; made = refl }))
-      (λ (r : (e : ResolveError) × Refuses n path e). inr (NoTarget k r.0, (r.0, refl, r.1)))
+      (λ (r : (e : ResolveError) × Refuses n path e). inr (no_target k pointer.Path r.0, (r.0, refl, r.1)))
       (resolve_some n path document.0 utf8)
   applies_some by n k (Move from path) document utf8 = ⊎_elim
-      (λ (f : IsProperPrefix from path). inr (MoveIntoSelf k, inl (refl, f)))
+      (λ (f : IsProperPrefix from path). inr (move_into_self k, inl (refl, f)))
       (λ (apart : IsProperPrefix from path → ⊥). ⊎_elim
       (λ (r : (v m : NodeMap) × Takes n from v m). ⊎_elim
       (λ (a : (m : NodeMap) × Adds r.1 path r.0 m). inl (a.0, record { node = r.0; left = r.1; apart = apart; taken = r.2; added = a.1 }))
-      (λ (a : (e : PatchError) × RefusesAdd r.1 k path e). inr (a.0, inr (apart, inr (r.0, r.1, r.2, a.1))))
+      (λ (a : (e : FailedOperation) × RefusesAdd r.1 k path e). inr (a.0, inr (apart, inr (r.0, r.1, r.2, a.1))))
       (adds_some r.1 k path r.0 ((takes_tree n from r.0 r.1 document.0 r.2).1) utf8.1))
-      (λ (r : (e : PatchError) × RefusesTarget n k from e). inr (r.0, inr (apart, inl r.1)))
-      (takes_some n k from document.0 utf8.0))
+      (λ (r : (e : FailedOperation) × RefusesTarget n k pointer.From from e). inr (r.0, inr (apart, inl r.1)))
+      (takes_some n k pointer.From from document.0 utf8.0))
       (cases_proper from path)
   applies_some by n k (Copy from path) document utf8 = ⊎_elim
       (λ (r : (m : NodeMap) × Finds n from m). ⊎_elim
       (λ (a : (m : NodeMap) × Adds n path r.0 m). inl (a.0, record { node = r.0; found = r.1; added = a.1 }))
-      (λ (a : (e : PatchError) × RefusesAdd n k path e). inr (a.0, inr (r.0, r.1, a.1)))
+      (λ (a : (e : FailedOperation) × RefusesAdd n k path e). inr (a.0, inr (r.0, r.1, a.1)))
       (adds_some n k path r.0 document.0 utf8.1))
-      (λ (r : (e : ResolveError) × Refuses n from e). inr (NoTarget k r.0, inl (r.0, refl, r.1)))
+      (λ (r : (e : ResolveError) × Refuses n from e). inr (no_target k pointer.From r.0, inl (r.0, refl, r.1)))
       (resolve_some n from document.0 utf8.0)
   applies_some by n k (Test path value) document utf8 = ⊎_elim
       (λ (p : PassesBy by n path (nodes (view value))). inl (n, (p, refl)))
-      (λ (r : (e : PatchError) × RefusesTestBy by n k path (nodes (view value)) e). inr r)
+      (λ (r : (e : FailedOperation) × RefusesTestBy by n k path (nodes (view value)) e). inr r)
       (tests_some by n k path (nodes (view value)) document (map_of-finite (content (view value))) utf8)

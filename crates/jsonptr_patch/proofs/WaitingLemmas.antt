@@ -19,7 +19,8 @@ use Rattle.jsonptr_patch.specs.PrivateLater.{paths_of, removals, AreScattered, I
 use Rattle.jsonptr_patch.specs.declared.later.Later.{Later}
 use Rattle.jsonptr_patch.specs.declared.operation.Operation.{Operation}
 use Rattle.jsonptr_patch.specs.declared.operation.Operation.TheVariants.{Add, Remove, Replace, Move, Copy, Test}
-use Rattle.jsonptr_patch.specs.declared.operation.PatchError.{PatchError}
+use Rattle.jsonptr_patch.specs.declared.failed_operation.FailedOperation.{FailedOperation}
+use Rattle.jsonptr_patch.specs.declared.failed_operation.PatchPointer.TheVariants as pointer
 use Rattle.jsonptr_patch.proofs.ApartLemmas.{Among, swap_one}
 use Rattle.jsonptr_patch.proofs.InverseLemmas.{adds_where_gone}
 use Rattle.jsonptr_patch.proofs.LaterLemmas.{first_in, in_parts, seen_later, diverges_later, scattered_after}
@@ -100,7 +101,7 @@ tree_later d n [] tree a = subst IsTree (sym a) tree
 tree_later d n (l ∷ ls) tree a = tree_later a.0 n ls (takes_tree d l.path a.1.0 a.0 tree a.1.1).1 a.2
 
 -- an addition to an object does not fail
-never_refused : (n : NodeMap) (i : ℕ) (tokens : List Text) (e : PatchError) → IsTree n → HasObject n tokens → RefusesAdd n i tokens e → ⊥
+never_refused : (n : NodeMap) (i : ℕ) (tokens : List Text) (e : FailedOperation) → IsTree n → HasObject n tokens → RefusesAdd n i tokens e → ⊥
 never_refused n i tokens e tree h r = adds_refused n i tokens n (put n (h.path ++ key h.last ∷ []) n) e tree
     (inr (record {
       front = h.front;
@@ -136,15 +137,15 @@ in_place k n v (Move from path) tokens tree t h p = record {
   refused = λ by. refused;
 }
   where
-    source : (i : ℕ) (e : PatchError) → RefusesTarget k i from e → RefusesTarget n i from e
-    source i e q = seen_after (λ n ts m. Takes n ts v m) (local_take v) (λ n ts. RefusesTarget n i ts e) (seen_refuses_target i e) k n from tokens p.1 t q
+    source : (i : ℕ) (e : FailedOperation) → RefusesTarget k i pointer.From from e → RefusesTarget n i pointer.From from e
+    source i e q = seen_after (λ n ts m. Takes n ts v m) (local_take v) (λ n ts. RefusesTarget n i pointer.From ts e) (seen_refuses_target i pointer.From e) k n from tokens p.1 t q
 
-    added : (i : ℕ) (e : PatchError) (node left : NodeMap) → Takes k from node left → RefusesAdd left i path e → ⊥
+    added : (i : ℕ) (e : FailedOperation) (node left : NodeMap) → Takes k from node left → RefusesAdd left i path e → ⊥
     added i e node left taken r =
         let object : HasObject left tokens = seen_after (λ n ts m. Takes n ts node m) (local_take node) HasObject seen_has_object k left tokens from (diverges_turned k from tokens p.1) taken h in
         never_refused left i tokens e (takes_tree k from node left tree taken).1 object (subst (λ (ts : List Text). RefusesAdd left i ts e) p.0 r)
 
-    refused : (i : ℕ) (e : PatchError) → RefusesMove k i from path e → RefusesMove n i from path e
+    refused : (i : ℕ) (e : FailedOperation) → RefusesMove k i from path e → RefusesMove n i from path e
     refused i e (inl way) = inl way
     refused i e (inr (way, inl r)) = inr (way, inl (source i e r))
     refused i e (inr (way, inr r)) = absurd (added i e r.0 r.1 r.2 r.3)
@@ -157,8 +158,8 @@ in_place k n v (Copy from path) tokens tree t h p = record {
   refused = λ by. refused;
 }
   where
-    refused : (i : ℕ) (e : PatchError) → RefusesCopy k i from path e → RefusesCopy n i from path e
-    refused i e (inl r) = inl (seen_after (λ n ts m. Takes n ts v m) (local_take v) (λ n ts. RefusesTarget n i ts e) (seen_refuses_target i e) k n from tokens p.1 t r)
+    refused : (i : ℕ) (e : FailedOperation) → RefusesCopy k i from path e → RefusesCopy n i from path e
+    refused i e (inl r) = inl (seen_after (λ n ts m. Takes n ts v m) (local_take v) (λ n ts. RefusesTarget n i pointer.From ts e) (seen_refuses_target i pointer.From e) k n from tokens p.1 t r)
     refused i e (inr r) = absurd (never_refused k i tokens e tree h (subst (λ (ts : List Text). RefusesAdd k i ts e) p.0 r.2))
 in_place k n v (Test path value) tokens tree t h p = absurd p
 

@@ -132,7 +132,7 @@ pub record FindsBefore (c : Comparison) (n : NodeMap) (os : List Operation) (tok
   pub is_stage : IsStage before next stage
   pub found : Finds stage tokens v
 
--- `IsOfBefore c n os o`: the value of operation `o`, if it has one, is at its pointer in such a document
+-- `IsOfBefore c n os o`: operation `o` is no test, and its value, if it has one, is at its pointer in such a document
 abbrev pub IsOfBefore : Comparison → NodeMap → List Operation → Operation → Type 0
 IsOfBefore c n os (Add path value) = FindsBefore c n os path (nodes (view value))
 IsOfBefore c n os (Remove path) = ⊤

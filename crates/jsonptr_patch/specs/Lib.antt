@@ -3,6 +3,7 @@
 pub mod Inserting
 pub mod Adding
 pub mod Testing
+pub mod Failing
 pub mod Operating
 pub mod Patching
 pub mod Inverse

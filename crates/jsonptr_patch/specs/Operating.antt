@@ -12,13 +12,15 @@ use Rattle.jsonptr.specs.Resolve.{Refuses, PutsAt}
 use Rattle.jsonptr.specs.declared.resolve.Error.{Error as ResolveError}
 use Rattle.jsonptr.specs.declared.assign.Error.{Error as AssignError}
 use Rattle.jsonptr_patch.specs.Adding.{Adds, LacksTarget, LacksPlace}
+use Rattle.jsonptr_patch.specs.Failing.{no_target, bad_place, move_into_self, test_float, test_failed}
 use Rattle.jsonptr_patch.specs.Testing.{IsEqualBy, IsEqual, HasFloat}
 use Rattle.jsonptr_patch.specs.declared.comparison.Comparison.{Comparison}
 use Rattle.jsonptr_patch.specs.declared.comparison.Comparison.TheVariants.{Strict, Numeric}
+use Rattle.jsonptr_patch.specs.declared.failed_operation.FailedOperation.{FailedOperation}
+use Rattle.jsonptr_patch.specs.declared.failed_operation.PatchPointer.{PatchPointer}
+use Rattle.jsonptr_patch.specs.declared.failed_operation.PatchPointer.TheVariants as pointer
 use Rattle.jsonptr_patch.specs.declared.operation.Operation.{Operation}
 use Rattle.jsonptr_patch.specs.declared.operation.Operation.TheVariants.{Add, Remove, Replace, Move, Copy, Test}
-use Rattle.jsonptr_patch.specs.declared.operation.PatchError.{PatchError}
-use Rattle.jsonptr_patch.specs.declared.operation.PatchError.TheVariants.{NoTarget, BadPlace, MoveIntoSelf, TestFloat, TestFailed}
 
 -- `Takes n tokens v m`: `tokens` evaluate to the map `v` in `n`, and `m` is `n` without it. Removing the root leaves
 -- `null`
@@ -74,63 +76,64 @@ AppliesBy c n (Test path value) m = PassesBy c n path (nodes (view value)) × (m
 abbrev pub Applies : NodeMap → Operation → NodeMap → Type 0
 Applies n o m = AppliesBy Strict n o m
 
--- `RefusesTarget n k tokens e`: evaluating `tokens` fails, and `e` reports why, for operation number `k`
-abbrev pub RefusesTarget : NodeMap → ℕ → List Text → PatchError → Type 0
-RefusesTarget n k tokens e = (cause : ResolveError) × (e ≡ NoTarget k cause) × Refuses n tokens cause
+-- `RefusesTarget n k at tokens e`: evaluating `tokens` fails, and `e` reports why, for the pointer `at` of operation
+-- number `k`
+abbrev pub RefusesTarget : NodeMap → ℕ → PatchPointer → List Text → FailedOperation → Type 0
+RefusesTarget n k at tokens e = (cause : ResolveError) × (e ≡ no_target k at cause) × Refuses n tokens cause
 
 -- `RefusesAdd n k tokens e`: nothing can be added at `tokens`, and `e` reports why, for operation number `k`
-abbrev pub RefusesAdd : NodeMap → ℕ → List Text → PatchError → Type 0
+abbrev pub RefusesAdd : NodeMap → ℕ → List Text → FailedOperation → Type 0
 RefusesAdd n k tokens e =
-    ((cause : ResolveError) × (e ≡ NoTarget k cause) × LacksTarget n tokens cause)
-    ⊎ ((cause : AssignError) × (e ≡ BadPlace k cause) × LacksPlace n tokens cause)
+    ((cause : ResolveError) × (e ≡ no_target k pointer.Path cause) × LacksTarget n tokens cause)
+    ⊎ ((cause : AssignError) × (e ≡ bad_place k cause) × LacksPlace n tokens cause)
 
 -- `RefusesMoveIntoSelf k from path e`: a node cannot be moved below itself, and `e` reports that, for operation number `k`
-abbrev pub RefusesMoveIntoSelf : ℕ → List Text → List Text → PatchError → Type 0
-RefusesMoveIntoSelf k from path e = (e ≡ MoveIntoSelf k) × IsProperPrefix from path
+abbrev pub RefusesMoveIntoSelf : ℕ → List Text → List Text → FailedOperation → Type 0
+RefusesMoveIntoSelf k from path e = (e ≡ move_into_self k) × IsProperPrefix from path
 
 -- `RefusesMove n k from path e`: moving from `from` to `path` fails with `e`. The node would be moved below itself,
 -- or does not exist, or cannot be added to what is left without it
-abbrev pub RefusesMove : NodeMap → ℕ → List Text → List Text → PatchError → Type 0
+abbrev pub RefusesMove : NodeMap → ℕ → List Text → List Text → FailedOperation → Type 0
 RefusesMove n k from path e =
     RefusesMoveIntoSelf k from path e
     ⊎ ((IsProperPrefix from path → ⊥)
-    × (RefusesTarget n k from e
+    × (RefusesTarget n k pointer.From from e
     ⊎ ((node left : NodeMap) × Takes n from node left × RefusesAdd left k path e)))
 
 -- `RefusesCopy n k from path e`: copying from `from` to `path` fails with `e`. The node does not exist, or cannot be
 -- added
-abbrev pub RefusesCopy : NodeMap → ℕ → List Text → List Text → PatchError → Type 0
+abbrev pub RefusesCopy : NodeMap → ℕ → List Text → List Text → FailedOperation → Type 0
 RefusesCopy n k from path e =
-    RefusesTarget n k from e ⊎ ((node : NodeMap) × Finds n from node × RefusesAdd n k path e)
+    RefusesTarget n k pointer.From from e ⊎ ((node : NodeMap) × Finds n from node × RefusesAdd n k path e)
 
 -- `RefusesComparing c n k tokens v e`: the node at `tokens` does not equal `v`, compared as `c`, and `e` reports that. A
 -- strict test first reports a float in one of the two
-abbrev pub RefusesComparing : Comparison → NodeMap → ℕ → List Text → NodeMap → PatchError → Type 0
+abbrev pub RefusesComparing : Comparison → NodeMap → ℕ → List Text → NodeMap → FailedOperation → Type 0
 RefusesComparing Strict n k tokens v e =
-    ((e ≡ TestFloat k) × (target : NodeMap) × Finds n tokens target × (HasFloat target ⊎ HasFloat v))
-    ⊎ ((e ≡ TestFailed k) × (target : NodeMap) × Compares n tokens v target × (IsEqual target v → ⊥))
+    ((e ≡ test_float k) × (target : NodeMap) × Finds n tokens target × (HasFloat target ⊎ HasFloat v))
+    ⊎ ((e ≡ test_failed k) × (target : NodeMap) × Compares n tokens v target × (IsEqual target v → ⊥))
 RefusesComparing Numeric n k tokens v e =
-    (e ≡ TestFailed k) × (target : NodeMap) × Finds n tokens target × (IsEqualBy Numeric target v → ⊥)
+    (e ≡ test_failed k) × (target : NodeMap) × Finds n tokens target × (IsEqualBy Numeric target v → ⊥)
 
 -- `RefusesTestBy c n k tokens v e`: the test fails with `e`. There is no node at `tokens`, or it does not equal `v`
-abbrev pub RefusesTestBy : Comparison → NodeMap → ℕ → List Text → NodeMap → PatchError → Type 0
-RefusesTestBy c n k tokens v e = RefusesTarget n k tokens e ⊎ RefusesComparing c n k tokens v e
+abbrev pub RefusesTestBy : Comparison → NodeMap → ℕ → List Text → NodeMap → FailedOperation → Type 0
+RefusesTestBy c n k tokens v e = RefusesTarget n k pointer.Path tokens e ⊎ RefusesComparing c n k tokens v e
 
 -- `RefusesTest n k tokens v e`: the strict test fails with `e`
-abbrev pub RefusesTest : NodeMap → ℕ → List Text → NodeMap → PatchError → Type 0
+abbrev pub RefusesTest : NodeMap → ℕ → List Text → NodeMap → FailedOperation → Type 0
 RefusesTest n k tokens v e = RefusesTestBy Strict n k tokens v e
 
 -- `RefusesOperationBy c n k o e`: operation `o`, with number `k`, fails on `n` with `e`, where a test compares as `c`
-abbrev pub RefusesOperationBy : Comparison → NodeMap → ℕ → Operation → PatchError → Type 0
+abbrev pub RefusesOperationBy : Comparison → NodeMap → ℕ → Operation → FailedOperation → Type 0
 RefusesOperationBy c n k (Add path value) e = RefusesAdd n k path e
-RefusesOperationBy c n k (Remove path) e = RefusesTarget n k path e
-RefusesOperationBy c n k (Replace path value) e = RefusesTarget n k path e
+RefusesOperationBy c n k (Remove path) e = RefusesTarget n k pointer.Path path e
+RefusesOperationBy c n k (Replace path value) e = RefusesTarget n k pointer.Path path e
 RefusesOperationBy c n k (Move from path) e = RefusesMove n k from path e
 RefusesOperationBy c n k (Copy from path) e = RefusesCopy n k from path e
 RefusesOperationBy c n k (Test path value) e = RefusesTestBy c n k path (nodes (view value)) e
 
 -- `RefusesOperation n k o e`: operation `o`, with number `k`, fails on `n` with `e`, where a test is strict
-abbrev pub RefusesOperation : NodeMap → ℕ → Operation → PatchError → Type 0
+abbrev pub RefusesOperation : NodeMap → ℕ → Operation → FailedOperation → Type 0
 RefusesOperation n k o e = RefusesOperationBy Strict n k o e
 
 -- `RestoresAt n tokens o`: operation `o` adds at `tokens` the value that is there in `n`

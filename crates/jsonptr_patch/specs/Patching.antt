@@ -1,9 +1,12 @@
 -- What a list of operations makes of a document, and how it fails (RFC 6902, section 5).
-use Rattle.std.specs.Prelude.{◌≡◌, List, [], ◌∷◌, ◌++◌, length}
+use Rattle.std.specs.Prelude.{Option, ◌≡◌, List, [], ◌∷◌, ◌++◌, length}
 use Rattle.jsonptr.specs.Node.{NodeMap}
+use Rattle.jsonptr_patch.specs.Failing.{failed}
 use Rattle.jsonptr_patch.specs.Operating.{AppliesBy, RefusesOperationBy}
 use Rattle.jsonptr_patch.specs.declared.comparison.Comparison.{Comparison}
 use Rattle.jsonptr_patch.specs.declared.comparison.Comparison.TheVariants.{Strict}
+use Rattle.jsonptr_patch.specs.declared.failed_operation.FailedOperation.{FailedOperation}
+use Rattle.jsonptr_patch.specs.declared.failed_operation.PatchPointer.{PatchPointer}
 use Rattle.jsonptr_patch.specs.declared.operation.Operation.{Operation}
 use Rattle.jsonptr_patch.specs.declared.operation.PatchError.{PatchError}
 
@@ -17,16 +20,20 @@ PatchesBy c n (o ∷ os) m = (next : NodeMap) × AppliesBy c n o next × Patches
 abbrev pub Patches : NodeMap → List Operation → NodeMap → Type 0
 Patches n os m = PatchesBy Strict n os m
 
--- `RefusesPatchBy c n os e`: some operations of `os` can be applied, and the next one fails with `e` on the map that they
--- leave. Its number counts from 0. Tests compare as `c`
-pub record RefusesPatchBy (c : Comparison) (n : NodeMap) (os : List Operation) (e : PatchError) : Type 0 where
+-- `FailsBy c n os f`: some operations of `os` can be applied, and the next one fails with `f` on the map that they leave:
+-- with its error, and the pointer at fault. Its number counts from 0. Tests compare as `c`
+pub record FailsBy (c : Comparison) (n : NodeMap) (os : List Operation) (f : FailedOperation) : Type 0 where
   pub done : List Operation
   pub fails : Operation
   pub rest : List Operation
   pub left : NodeMap
   pub split : os ≡ done ++ fails ∷ rest
   pub applied : PatchesBy c n done left
-  pub refused : RefusesOperationBy c left (length done) fails e
+  pub refused : RefusesOperationBy c left (length done) fails f
+
+-- `RefusesPatchBy c n os e`: the operations `os` fail on `n` with the error `e`, where tests compare as `c`
+abbrev pub RefusesPatchBy : Comparison → NodeMap → List Operation → PatchError → Type 0
+RefusesPatchBy c n os e = (at : Option PatchPointer) × FailsBy c n os (failed e at)
 
 -- `RefusesPatch n os e`: the operations `os` fail so with `e`, where tests are strict
 abbrev pub RefusesPatch : NodeMap → List Operation → PatchError → Type 0

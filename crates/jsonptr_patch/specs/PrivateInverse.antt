@@ -7,9 +7,10 @@ use Rattle.jsonptr.specs.Node.{NodeMap}
 use Rattle.jsonptr_patch.specs.Inverse.{TakesBack}
 use Rattle.jsonptr_patch.specs.Operating.{RefusesTarget, RefusesAdd, RefusesMove, RefusesCopy}
 use Rattle.jsonptr_patch.specs.Order.{OperationHasSortedKeys}
+use Rattle.jsonptr_patch.specs.declared.failed_operation.FailedOperation.{FailedOperation}
+use Rattle.jsonptr_patch.specs.declared.failed_operation.PatchPointer.TheVariants as pointer
 use Rattle.jsonptr_patch.specs.declared.operation.Operation.{Operation}
 use Rattle.jsonptr_patch.specs.declared.operation.Operation.TheVariants.{Add, Remove, Replace, Move, Copy, Test}
-use Rattle.jsonptr_patch.specs.declared.operation.PatchError.{PatchError}
 
 -- `AppendsBack os back ps`: `ps` are `os` and then the operations `back`, the last one first
 abbrev pub AppendsBack : List Operation → List Operation → List Operation → Type 0
@@ -35,10 +36,10 @@ abbrev pub StaySorted : Data → List Operation → List Operation → Type 0
 StaySorted d os ps = HasSortedKeys d → All OperationHasSortedKeys os → All OperationHasSortedKeys ps
 
 -- `RefusesChange n k o e`: operation `o`, with number `k`, fails on `n` with `e`, and is no test
-abbrev pub RefusesChange : NodeMap → ℕ → Operation → PatchError → Type 0
+abbrev pub RefusesChange : NodeMap → ℕ → Operation → FailedOperation → Type 0
 RefusesChange n k (Add path value) e = RefusesAdd n k path e
-RefusesChange n k (Remove path) e = RefusesTarget n k path e
-RefusesChange n k (Replace path value) e = RefusesTarget n k path e
+RefusesChange n k (Remove path) e = RefusesTarget n k pointer.Path path e
+RefusesChange n k (Replace path value) e = RefusesTarget n k pointer.Path path e
 RefusesChange n k (Move from path) e = RefusesMove n k from path e
 RefusesChange n k (Copy from path) e = RefusesCopy n k from path e
 RefusesChange n k (Test path value) e = ⊥

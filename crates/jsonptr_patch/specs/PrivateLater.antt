@@ -16,9 +16,9 @@ use Rattle.jsonptr_patch.specs.Operating.{Takes, AppliesBy, RefusesOperationBy}
 use Rattle.jsonptr_patch.specs.Patching.{Patches}
 use Rattle.jsonptr_patch.specs.declared.comparison.Comparison.{Comparison}
 use Rattle.jsonptr_patch.specs.declared.later.Later.{Later}
+use Rattle.jsonptr_patch.specs.declared.failed_operation.FailedOperation.{FailedOperation}
 use Rattle.jsonptr_patch.specs.declared.operation.Operation.{Operation}
 use Rattle.jsonptr_patch.specs.declared.operation.Operation.TheVariants.{Add, Remove, Replace, Move, Copy, Test}
-use Rattle.jsonptr_patch.specs.declared.operation.PatchError.{PatchError}
 
 -- `IsObjectAt n tokens`: `tokens` evaluate to an object of `n`
 abbrev pub IsObjectAt : NodeMap → List Text → Type 0
@@ -119,4 +119,4 @@ IsSource r tokens c d = MatchOption r (d ≡ c) (λ t. Blanks tokens t c d)
 -- `StandsFor k n o`: what operation `o` makes of `k` it makes of `n`, and it fails on `n` as on `k`
 pub record StandsFor (k n : NodeMap) (o : Operation) : Type 0 where
   pub applied : (c : Comparison) (m : NodeMap) → AppliesBy c k o m → AppliesBy c n o m
-  pub refused : (c : Comparison) (i : ℕ) (e : PatchError) → RefusesOperationBy c k i o e → RefusesOperationBy c n i o e
+  pub refused : (c : Comparison) (i : ℕ) (e : FailedOperation) → RefusesOperationBy c k i o e → RefusesOperationBy c n i o e

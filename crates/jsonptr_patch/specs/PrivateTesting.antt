@@ -8,11 +8,11 @@ use Rattle.serde_json.specs.View.{view}
 use Rattle.serde_json.specs.declared.value.Value.{Value}
 use Rattle.jsonptr.specs.Json.{nodes}
 use Rattle.jsonptr.specs.Text.{Text}
+use Rattle.jsonptr_patch.specs.Failing.{test_float, test_failed}
 use Rattle.jsonptr_patch.specs.Testing.{NumericallyEqual, IsEqualBy, HasFloat}
 use Rattle.jsonptr_patch.specs.declared.comparison.Comparison.{Comparison}
 use Rattle.jsonptr_patch.specs.declared.comparison.Comparison.TheVariants.{Strict, Numeric}
-use Rattle.jsonptr_patch.specs.declared.operation.PatchError.{PatchError}
-use Rattle.jsonptr_patch.specs.declared.operation.PatchError.TheVariants.{TestFloat, TestFailed}
+use Rattle.jsonptr_patch.specs.declared.failed_operation.FailedOperation.{FailedOperation}
 
 -- `SameValueBy c v w`: the two values are equal for a test that compares as `c`
 abbrev pub SameValueBy : Comparison → Value → Value → Type 0
@@ -72,11 +72,11 @@ abbrev pub IsPlain : Value → Type 0
 IsPlain v = FloatIn v → ⊥
 
 -- `RefusesCompare k v w e`: comparing `v` with `w` fails with `e`, for operation number `k`
-abbrev pub RefusesCompare : ℕ → Value → Value → PatchError → Type 0
+abbrev pub RefusesCompare : ℕ → Value → Value → FailedOperation → Type 0
 RefusesCompare k v w e =
-    ((e ≡ TestFloat k) × (FloatIn v ⊎ FloatIn w))
-    ⊎ ((e ≡ TestFailed k) × IsPlain v × IsPlain w × (SameValue v w → ⊥))
+    ((e ≡ test_float k) × (FloatIn v ⊎ FloatIn w))
+    ⊎ ((e ≡ test_failed k) × IsPlain v × IsPlain w × (SameValue v w → ⊥))
 
 -- `DiffersNumerically k v w e`: `v` and `w` are not numerically equal, and `e` reports that, for operation number `k`
-abbrev pub DiffersNumerically : ℕ → Value → Value → PatchError → Type 0
-DiffersNumerically k v w e = (e ≡ TestFailed k) × (SameValueBy Numeric v w → ⊥)
+abbrev pub DiffersNumerically : ℕ → Value → Value → FailedOperation → Type 0
+DiffersNumerically k v w e = (e ≡ test_failed k) × (SameValueBy Numeric v w → ⊥)

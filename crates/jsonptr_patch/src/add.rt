@@ -11,6 +11,7 @@ ghost use Rattle.jsonptr_patch.specs.Operating.{RefusesAdd};
 ghost use Rattle.jsonptr_patch.specs.PrivateAdding.{IsPlace};
 ghost use Rattle.jsonptr_patch.specs.PrivateRecording.{Records};
 
+use crate::failed_operation::{FailedOperation, PatchPointer};
 use crate::operation::PatchError;
 use crate::target::no_target;
 use crate::turn::Turn;
@@ -36,7 +37,7 @@ pub fn add(
     journal: &mut Journal,
     path: Pointer<'_>,
     value: Value,
-) -> Result<(), Fault<PatchError>>
+) -> Result<(), Fault<FailedOperation>>
     ensures added { IfOk result (λ _. Adds (nodes (view document.old)) (tokens path.entry)
         (nodes (view value)) (nodes (view document.new))) }
     ensures sorted { IfOk result (λ _.
@@ -66,7 +67,7 @@ pub fn add_last(
     document: &mut Value,
     path: Pointer<'_>,
     value: Value,
-) -> Result<(), Fault<PatchError>>
+) -> Result<(), Fault<FailedOperation>>
     ensures added { IfOk result (λ _. Adds (nodes (view document.old)) (tokens path.entry)
         (nodes (view value)) (nodes (view document.new))) }
     ensures sorted { IfOk result (λ _.
@@ -101,7 +102,7 @@ pub fn target_of(
     turn: Turn,
     document: &Value,
     path: Pointer<'_>,
-) -> Result<Target, Fault<PatchError>>
+) -> Result<Target, Fault<FailedOperation>>
     ensures found { IfOk result (IsPlace (nodes (view document.now)) (tokens path.entry)) }
     ensures refused { IfRefused result
         (RefusesAdd (nodes (view document.now)) turn.number (tokens path.entry)) }
@@ -111,7 +112,7 @@ pub fn target_of(
     };
     let parent = match locate(turn.alloc, document, front) {
         Ok(parent) => parent,
-        Err(fault) => return Err(no_target(turn.number, fault)),
+        Err(fault) => return Err(no_target(turn.number, PatchPointer::Path, fault)),
     };
     match parent.node.node() {
         Node::Object(_) => Ok(Target::Member {
@@ -123,18 +124,18 @@ pub fn target_of(
                 array: parent.location,
                 index,
             }),
-            Err(cause) => Err(Fault::Refused(PatchError::BadPlace {
+            Err(cause) => Err(Fault::Refused(FailedOperation::at_path(PatchError::BadPlace {
                 operation: turn.number,
                 cause,
-            })),
+            }))),
         },
-        Node::Leaf => Err(Fault::Refused(PatchError::NoTarget {
+        Node::Leaf => Err(Fault::Refused(FailedOperation::at_path(PatchError::NoTarget {
             operation: turn.number,
             cause: resolve::Error::Unreachable {
                 position: front.count(),
                 offset: front.len(),
             },
-        })),
+        }))),
     }
 }
 

@@ -9,7 +9,7 @@ ghost use Rattle.jsonptr_patch.specs.Operating.{Copies, RefusesTarget, RefusesCo
 ghost use Rattle.jsonptr_patch.specs.PrivateRecording.{Records};
 
 use crate::add::{add, add_last};
-use crate::operation::PatchError;
+use crate::failed_operation::{FailedOperation, PatchPointer};
 use crate::target::no_target;
 use crate::turn::Turn;
 use jsonptr::{Fault, Pointer};
@@ -28,7 +28,7 @@ pub fn copy(
     journal: &mut Journal,
     from: Pointer<'_>,
     path: Pointer<'_>,
-) -> Result<(), Fault<PatchError>>
+) -> Result<(), Fault<FailedOperation>>
     ensures copied { IfOk result (λ _. Copies (nodes (view document.old)) (tokens from.entry)
         (tokens path.entry) (nodes (view document.new))) }
     ensures sorted { IfOk result (λ _.
@@ -37,7 +37,7 @@ pub fn copy(
         (tokens from.entry) (tokens path.entry)) }
     ensures undone { Records journal.old document.old journal.new document.new }
 {
-    let value = copy_of(turn, document, from)?;
+    let value = copy_of(turn, document, PatchPointer::From, from)?;
     add(turn, document, journal, path, value)
 }
 
@@ -51,7 +51,7 @@ pub fn copy_last(
     document: &mut Value,
     from: Pointer<'_>,
     path: Pointer<'_>,
-) -> Result<(), Fault<PatchError>>
+) -> Result<(), Fault<FailedOperation>>
     ensures copied { IfOk result (λ _. Copies (nodes (view document.old)) (tokens from.entry)
         (tokens path.entry) (nodes (view document.new))) }
     ensures sorted { IfOk result (λ _.
@@ -60,25 +60,30 @@ pub fn copy_last(
         (tokens from.entry) (tokens path.entry)) }
     ensures unchanged { OnErr result (view document.new ≡ view document.old) }
 {
-    let value = copy_of(turn, document, from)?;
+    let value = copy_of(turn, document, PatchPointer::From, from)?;
     add_last(turn, document, path, value)
 }
 
-/// Returns a copy of the value that the pointer resolves to.
+/// Returns a copy of the value that the pointer resolves to, which is this one of the operation.
 ///
 /// # Errors
 ///
 /// [`Fault::Refused`] if the pointer does not resolve to a value, and [`Fault::Memory`] if an
 /// allocation fails.
-pub fn copy_of(turn: Turn, document: &Value, from: Pointer<'_>) -> Result<Value, Fault<PatchError>>
+pub fn copy_of(
+    turn: Turn,
+    document: &Value,
+    pointer: PatchPointer,
+    from: Pointer<'_>,
+) -> Result<Value, Fault<FailedOperation>>
     ensures found { IfOk result (λ v. Finds (nodes (view document.now)) (tokens from.entry)
         (nodes (view v))) }
     ensures sorted { IfOk result (λ v. HasSortedKeys (view document.now) → HasSortedKeys (view v)) }
     ensures refused { IfRefused result
-        (RefusesTarget (nodes (view document.now)) turn.number (tokens from.entry)) }
+        (RefusesTarget (nodes (view document.now)) turn.number pointer (tokens from.entry)) }
 {
     match from.resolve(turn.alloc, document) {
         Ok(value) => Ok(jsonptr_value::copy(turn.alloc, value)?),
-        Err(fault) => Err(no_target(turn.number, fault)),
+        Err(fault) => Err(no_target(turn.number, pointer, fault)),
     }
 }

@@ -13,11 +13,12 @@ ghost use Rattle.jsonptr_journal.specs.Changes.{IsThere, TakesAt};
 ghost use Rattle.jsonptr_journal.specs.Location.{path_of, contents_of};
 ghost use Rattle.jsonptr_patch.specs.Operating.{IsProperPrefix, AppliesBy, RefusesAdd, RefusesMove, RefusesTarget, RefusesOperationBy, RestoresAt};
 ghost use Rattle.jsonptr_patch.specs.Order.{OperationHasSortedKeys};
-ghost use Rattle.jsonptr_patch.specs.Patching.{Patches, PatchesBy, RefusesPatch, RefusesPatchBy};
+ghost use Rattle.jsonptr_patch.specs.Patching.{Patches, PatchesBy, FailsBy, RefusesPatch, RefusesPatchBy};
 ghost use Rattle.jsonptr_patch.specs.PrivateInverse.{AppendsBack, AppendsBackOf, IsPlaceBack, StaySorted, RefusesChange};
 ghost use Rattle.jsonptr_patch.specs.PrivateLater.{paths_of, IsPending, TakesPlace, StandsFor};
 ghost use Rattle.jsonptr_patch.specs.PrivateRecording.{CanUndo, Records};
 ghost use Rattle.jsonptr_patch.specs.declared.comparison.Comparison.{Comparison as SpecComparison};
+ghost use Rattle.jsonptr_patch.specs.declared.failed_operation.PatchPointer.TheVariants as pointer;
 ghost use Rattle.jsonptr_patch.specs.declared.operation.Operation.{Operation as SpecOperation};
 ghost use Rattle.jsonptr_patch.specs.declared.operation.Operation.TheVariants as variant;
 
@@ -25,6 +26,7 @@ use crate::add::target_of;
 use crate::apart::diverge;
 use crate::comparison::Comparison;
 use crate::copy::copy_of;
+use crate::failed_operation::{FailedOperation, PatchPointer, without_pointer};
 use crate::later::{make_apart, record_apart, take_place, unlink};
 use crate::move_value::is_proper_prefix;
 use crate::operation::{Operation, PatchError};
@@ -45,15 +47,16 @@ use std::alloc::{AllocError, Global};
 /// | a removal | an `add` with the old value |
 /// | an addition, a copy | a `remove`, or a `replace` with the value that was replaced |
 /// | a replacement | a `replace` with the old value |
-/// | a move | a `move`, then an `add` of the member that was replaced, if any |
+/// | a move | a `move` back, then an `add` of the member that was replaced, if any |
 /// | a test | nothing |
 ///
 /// Only the order of the members in their values is not determined by document and patch
 /// ([`inverse_law`](crate::laws::inverse::inverse_law)).
 ///
-/// Each value that is removed or replaced is cloned once, and a value that is moved is not. Two moves
-/// are taken back by two operations, which clone the value: one to a location above its source, and
-/// one that replaces a member without diverging from its source at an object.
+/// Each value that is removed or replaced is cloned once, and a value that is moved is not. Three moves
+/// have no move back, and are taken back by what takes back the removal and the addition, which clones the
+/// value: one to a location above its source, one that replaces a member without diverging from its source
+/// at an object, and one of the root to itself.
 ///
 /// Otherwise it costs what [`apply`](crate::apply) costs. A move between two pointers that do not diverge
 /// at an object removes the value twice.
@@ -138,6 +141,49 @@ pub fn apply_comparing_with_inverse(
         (RefusesPatchBy comparison (nodes (view document.old)) patch.items) }
     ensures unchanged { OnErr result (view document.new ≡ view document.old) }
 {
+    match apply_naming_pointer_with_inverse(alloc, document, patch, comparison) {
+        Ok(back) => Ok(back),
+        Err(fault) => Err(without_pointer(fault)),
+    }
+}
+
+/// Applies the operations in order, as [`apply_comparing_with_inverse`] does, and names the pointer at fault
+/// of an operation that fails.
+///
+/// ```rust
+/// let mut document = json!(in alloc; {"size": 3})?;
+/// let from = PointerBuf::from_text(alloc, "/length")?;
+/// let path = PointerBuf::from_text(alloc, "/sizes")?;
+/// let patch = vec![in alloc; Operation::Copy { from, path }]?;
+/// let applied = apply_naming_pointer_with_inverse(alloc, &mut document, patch, Comparison::Numeric);
+/// let failed = applied.err().ok_or("an error")?.refused()?;
+/// assert_eq!(rt; failed.pointer, Some(PatchPointer::From));
+/// ```
+///
+/// # Errors
+///
+/// Those of [`apply_naming_pointer`](crate::apply_naming_pointer). The document is unchanged.
+pub fn apply_naming_pointer_with_inverse(
+    alloc: Global,
+    document: &mut Value,
+    patch: Vec<Operation>,
+    comparison: Comparison,
+) -> Result<Vec<Operation>, Fault<FailedOperation>>
+    ensures applied { IfOk result (λ _.
+        PatchesBy comparison (nodes (view document.old)) patch.items (nodes (view document.new))) }
+    ensures sorted { IfOk result (λ _. All OperationHasSortedKeys patch.items
+        → HasSortedKeys (view document.old) → HasSortedKeys (view document.new)) }
+    ensures inverse { IfOk result (λ back.
+        Patches (nodes (view document.new)) back.items (nodes (view document.old))) }
+    ensures taken_back { IfOk result (λ back.
+        TakesAllBackBy comparison (nodes (view document.old)) patch.items back.items) }
+    ensures inverse_sorted { IfOk result (λ back. All OperationHasSortedKeys patch.items
+        → HasSortedKeys (view document.old) → All OperationHasSortedKeys back.items) }
+    ensures empty { patch.items ≡ [] → IsOk result }
+    ensures refused { IfRefused result
+        (FailsBy comparison (nodes (view document.old)) patch.items) }
+    ensures unchanged { OnErr result (view document.new ≡ view document.old) }
+{
     if patch.is_empty() {
         return Ok(Vec::new(alloc));
     }
@@ -167,7 +213,7 @@ fn record_with_inverse(
     document: &mut Value,
     run: &mut Run,
     operations: Vec<Operation>,
-) -> Result<Vec<Operation>, Fault<PatchError>>
+) -> Result<Vec<Operation>, Fault<FailedOperation>>
     requires start { first.number ≡ 0 }
     requires undone { CanUndo run.old.journal document.old }
     requires none { run.old.later.items ≡ [] }
@@ -181,7 +227,7 @@ fn record_with_inverse(
         TakesAllBackBy first.comparison (nodes (view document.old)) operations.items back.items) }
     ensures inverse_sorted { IfOk result (λ back. All OperationHasSortedKeys operations.items
         → HasSortedKeys (view document.old) → All OperationHasSortedKeys back.items) }
-    ensures refused { IfRefused result (RefusesPatchBy first.comparison (nodes (view document.old)) operations.items) }
+    ensures refused { IfRefused result (FailsBy first.comparison (nodes (view document.old)) operations.items) }
     ensures undone { OnErr result (Records run.old.journal document.old run.new.journal document.new) }
 {
     let mut inverse = Vec::new(first.alloc);
@@ -210,7 +256,7 @@ fn record_each(
     run: &mut Run,
     inverse: &mut Vec<Operation>,
     operations: Vec<Operation>,
-) -> Result<(), Fault<PatchError>>
+) -> Result<(), Fault<FailedOperation>>
     requires start { first.number ≡ 0 }
     requires undone { CanUndo run.old.journal document.old }
     requires none { run.old.later.items ≡ [] }
@@ -224,7 +270,7 @@ fn record_each(
         → HasSortedKeys (view document.old) → HasSortedKeys (view document.new)) }
     ensures inverse_sorted { IfOk result (λ _. All OperationHasSortedKeys operations.items
         → HasSortedKeys (view document.old) → All OperationHasSortedKeys inverse.new.items) }
-    ensures refused { IfRefused result (RefusesPatchBy first.comparison (nodes (view document.old)) operations.items) }
+    ensures refused { IfRefused result (FailsBy first.comparison (nodes (view document.old)) operations.items) }
     ensures undone { Records run.old.journal document.old run.new.journal document.new }
 {
     let mut number = first.number;
@@ -248,7 +294,7 @@ fn step(
     run: &mut Run,
     inverse: &mut Vec<Operation>,
     operation: Operation,
-) -> Result<(), Fault<PatchError>>
+) -> Result<(), Fault<FailedOperation>>
     requires undone { CanUndo run.old.journal document.old }
     requires pending { (n : NodeMap) × IsPending (nodes (view document.old)) run.old.later.items n }
     ensures applied { IfOk result (λ _. (n : NodeMap)
@@ -281,7 +327,7 @@ fn settle_with_back(
     run: &mut Run,
     inverse: &mut Vec<Operation>,
     operation: &Operation,
-) -> Result<(), Fault<PatchError>>
+) -> Result<(), Fault<FailedOperation>>
     requires undone { CanUndo run.old.journal document.old }
     requires pending { (n : NodeMap) × IsPending (nodes (view document.old)) run.old.later.items n }
     ensures apart { IfOk result (λ _. AllDiverge (nodes (view document.new)) (pointers operation.now)
@@ -358,7 +404,7 @@ fn back_of(
     document: &mut Value,
     inverse: &mut Vec<Operation>,
     operation: &Operation,
-) -> Result<(), Fault<PatchError>>
+) -> Result<(), Fault<FailedOperation>>
     ensures back { IfOk result (λ _. (back : List SpecOperation)
         × TakesBack (nodes (view document.old)) operation.now back
         × AppendsBack inverse.old.items back inverse.new.items) }
@@ -375,13 +421,13 @@ fn back_of(
         }
         Operation::Remove { path } => {
             let path = path.clone()?;
-            let value = copy_of(turn, document, path.as_ptr())?;
+            let value = copy_of(turn, document, PatchPointer::Path, path.as_ptr())?;
             append(inverse, Operation::Add { path, value })?;
             Ok(())
         }
         Operation::Replace { path, .. } => {
             let path = path.clone()?;
-            let value = copy_of(turn, document, path.as_ptr())?;
+            let value = copy_of(turn, document, PatchPointer::Path, path.as_ptr())?;
             append(inverse, Operation::Replace { path, value })?;
             Ok(())
         }
@@ -389,7 +435,7 @@ fn back_of(
             back_of_move(turn, document, inverse, from.as_ptr(), path.as_ptr())
         }
         Operation::Copy { from, path } => {
-            target(turn, document, from.as_ptr())?;
+            target(turn, document, PatchPointer::From, from.as_ptr())?;
             let back = back_of_add(turn, document, path.as_ptr())?;
             append(inverse, back)?;
             Ok(())
@@ -407,7 +453,7 @@ fn back_of_add(
     turn: Turn,
     document: &Value,
     path: Pointer<'_>,
-) -> Result<Operation, Fault<PatchError>>
+) -> Result<Operation, Fault<FailedOperation>>
     ensures back { IfOk result (TakesAddBack (nodes (view document.now)) (tokens path.entry)) }
     ensures sorted { IfOk result (λ back.
         HasSortedKeys (view document.now) → OperationHasSortedKeys back) }
@@ -462,7 +508,7 @@ fn back_of_move(
     inverse: &mut Vec<Operation>,
     from: Pointer<'_>,
     path: Pointer<'_>,
-) -> Result<(), Fault<PatchError>>
+) -> Result<(), Fault<FailedOperation>>
     ensures back { IfOk result (λ _. (back : List SpecOperation)
         × TakesBack (nodes (view document.old)) (variant.Move (tokens from.entry) (tokens path.entry)) back
         × AppendsBack inverse.old.items back inverse.new.items) }
@@ -473,11 +519,11 @@ fn back_of_move(
     ensures unchanged { view document.new ≡ view document.old }
 {
     if is_proper_prefix(from, path) {
-        return Err(Fault::Refused(PatchError::MoveIntoSelf {
+        return Err(Fault::Refused(FailedOperation::at_no_pointer(PatchError::MoveIntoSelf {
             operation: turn.number,
-        }));
+        })));
     }
-    let location = target(turn, document, from)?;
+    let location = target(turn, document, PatchPointer::From, from)?;
     let apart = diverge(turn.alloc, document, from, path)?;
     if apart {
         return back_of_diverging_move(turn, document, inverse, from, path);
@@ -497,7 +543,7 @@ fn back_of_diverging_move(
     inverse: &mut Vec<Operation>,
     from: Pointer<'_>,
     path: Pointer<'_>,
-) -> Result<(), Fault<PatchError>>
+) -> Result<(), Fault<FailedOperation>>
     requires { Diverges (nodes (view document.now)) (tokens from) (tokens path) }
     ensures back { IfOk result (λ _. (o : SpecOperation) × (back : List SpecOperation)
         × TakesAddBack (nodes (view document.now)) (tokens path.entry) o
@@ -554,7 +600,7 @@ fn back_in_left(
     document: &mut Value,
     location: Location,
     path: Pointer<'_>,
-) -> Result<Operation, Fault<PatchError>>
+) -> Result<Operation, Fault<FailedOperation>>
     requires { IsThere (path_of location) (contents_of document.old) }
     ensures back { IfOk result (λ back. (v left : Content)
         × TakesAt (path_of location) v (contents_of document.old) left
@@ -585,7 +631,7 @@ fn append_reverse(
     inverse: &mut Vec<Operation>,
     from: Pointer<'_>,
     back: Operation,
-) -> Result<(), Fault<PatchError>>
+) -> Result<(), Fault<FailedOperation>>
     ensures back { IfOk result (λ _. (path : List Text)
         → (Diverges (nodes (view document.now)) (tokens from.entry) path → ⊥)
         → (reverse : List SpecOperation)
@@ -594,7 +640,7 @@ fn append_reverse(
     ensures sorted { IfOk result (λ _. OperationHasSortedKeys back
         → StaySorted (view document.now) inverse.old.items inverse.new.items) }
     ensures refused { IfRefused result
-        (RefusesTarget (nodes (view document.now)) turn.number (tokens from.entry)) }
+        (RefusesTarget (nodes (view document.now)) turn.number pointer.From (tokens from.entry)) }
 {
     match location_of(back, from) {
         Ok(location) => {
@@ -631,16 +677,16 @@ fn addition_at(
     turn: Turn,
     document: &Value,
     from: Pointer<'_>,
-) -> Result<Operation, Fault<PatchError>>
+) -> Result<Operation, Fault<FailedOperation>>
     ensures restores { IfOk result
         (RestoresAt (nodes (view document.now)) (tokens from.entry)) }
     ensures sorted { IfOk result (λ again.
         HasSortedKeys (view document.now) → OperationHasSortedKeys again) }
     ensures refused { IfRefused result
-        (RefusesTarget (nodes (view document.now)) turn.number (tokens from.entry)) }
+        (RefusesTarget (nodes (view document.now)) turn.number pointer.From (tokens from.entry)) }
 {
     let path = from.to_buf(turn.alloc)?;
-    let value = copy_of(turn, document, from)?;
+    let value = copy_of(turn, document, PatchPointer::From, from)?;
     Ok(Operation::Add { path, value })
 }
 

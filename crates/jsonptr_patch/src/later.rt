@@ -19,11 +19,13 @@ ghost use Rattle.jsonptr_patch.specs.Order.{OperationHasSortedKeys};
 ghost use Rattle.jsonptr_patch.specs.Inverse.{HasObject};
 ghost use Rattle.jsonptr_patch.specs.PrivateLater.{paths_of, IsKept, IsReached, IsPending, IsObjectAt, IsMemberAt, Forks, IsWaitingAt, TakesPlace, Frees, CanWait, StandsFor, IsSource};
 ghost use Rattle.jsonptr_patch.specs.PrivateRecording.{CanUndo, Records};
+ghost use Rattle.jsonptr_patch.specs.declared.failed_operation.PatchPointer.TheVariants as pointer;
 
 use crate::apart::{fork, resolves_to_object};
 use crate::drop::discard_small;
+use crate::failed_operation::{FailedOperation, PatchPointer};
 use crate::move_value::{AddError, add_taken, move_value};
-use crate::operation::{Operation, PatchError};
+use crate::operation::Operation;
 use crate::patch::record;
 use crate::target::{no_target, target};
 use crate::turn::{Run, Turn};
@@ -532,13 +534,13 @@ fn remove_later(
     document: &Value,
     later: &mut Vec<Later>,
     path: PointerBuf,
-) -> Result<(), Fault<PatchError>>
+) -> Result<(), Fault<FailedOperation>>
     requires apart { AllDiverge (nodes (view document.now)) (path ∷ []) (paths_of later.old.items) }
     requires member { HasObject (nodes (view document.now)) path }
     ensures removed { IfOk result (λ _. (n : NodeMap)
         → IsPending (nodes (view document.now)) later.old.items n
         → (m v : NodeMap) × Takes n path v m × IsPending (nodes (view document.now)) later.new.items m) }
-    ensures refused { IfRefused result (RefusesTarget (nodes (view document.now)) turn.number path) }
+    ensures refused { IfRefused result (RefusesTarget (nodes (view document.now)) turn.number pointer.Path path) }
 {
     let location = reached(turn, document, &path)?;
     make_room(later)?;
@@ -556,17 +558,17 @@ fn reached(
     turn: Turn,
     document: &Value,
     path: &PointerBuf,
-) -> Result<Option<Location>, Fault<PatchError>>
+) -> Result<Option<Location>, Fault<FailedOperation>>
     ensures kept { IfOk result (λ kept. IsKept kept (nodes (view document.now)) path.now) }
-    ensures refused { IfRefused result (RefusesTarget (nodes (view document.now)) turn.number path.now) }
+    ensures refused { IfRefused result (RefusesTarget (nodes (view document.now)) turn.number pointer.Path path.now) }
 {
     if path.as_ptr().as_str().as_bytes().contains(&b'~') {
-        let location = target(turn, document, path.as_ptr())?;
+        let location = target(turn, document, PatchPointer::Path, path.as_ptr())?;
         return Ok(Some(location));
     }
     match path.as_ptr().resolve(turn.alloc, document) {
         Ok(_) => Ok(None),
-        Err(fault) => Err(no_target(turn.number, fault)),
+        Err(fault) => Err(no_target(turn.number, PatchPointer::Path, fault)),
     }
 }
 
@@ -583,7 +585,7 @@ fn move_later(
     run: &mut Run,
     from: PointerBuf,
     path: Pointer<'_>,
-) -> Result<(), Fault<PatchError>>
+) -> Result<(), Fault<FailedOperation>>
     requires apart { AllDiverge (nodes (view document.old)) (from ∷ tokens path ∷ [])
         (paths_of run.old.later.items) }
     requires diverges { Diverges (nodes (view document.old)) from (tokens path) }
@@ -824,7 +826,7 @@ fn wait(
     document: &mut Value,
     run: &mut Run,
     operation: Operation,
-) -> Result<(), Fault<PatchError>>
+) -> Result<(), Fault<FailedOperation>>
     requires apart { AllDiverge (nodes (view document.old)) (pointers operation)
         (paths_of run.old.later.items) }
     requires waits { CanWait (nodes (view document.old)) operation }
@@ -865,7 +867,7 @@ pub fn record_apart(
     document: &mut Value,
     run: &mut Run,
     operation: Operation,
-) -> Result<(), Fault<PatchError>>
+) -> Result<(), Fault<FailedOperation>>
     requires undone { CanUndo run.old.journal document.old }
     requires apart { AllDiverge (nodes (view document.old)) (pointers operation)
         (paths_of run.old.later.items) }
@@ -903,7 +905,7 @@ pub fn record_or_wait(
     document: &mut Value,
     run: &mut Run,
     operation: Operation,
-) -> Result<(), Fault<PatchError>>
+) -> Result<(), Fault<FailedOperation>>
     requires undone { CanUndo run.old.journal document.old }
     requires pending { (n : NodeMap) × IsPending (nodes (view document.old)) run.old.later.items n }
     ensures applied { IfOk result (λ _. (n : NodeMap)

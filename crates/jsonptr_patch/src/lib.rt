@@ -28,7 +28,8 @@
 //!
 //! - [`Operation`] is one operation of a patch, and [`apply`] applies a list of them.
 //! - [`apply_comparing`] applies them with the [`Comparison`] of numbers that its caller chooses.
-//! - [`PatchError`] identifies the operation that failed, and why.
+//! - [`PatchError`] identifies the operation that failed, and why. [`apply_naming_pointer`] also names the
+//!   pointer at fault, in a [`FailedOperation`].
 //! - [`apply_with_inverse`] applies a patch and returns the patch that takes it back, and
 //!   [`apply_comparing_with_inverse`] does so with a [`Comparison`].
 //! - [`are_apart`] returns whether two patches can be applied in either order.
@@ -48,6 +49,7 @@ mod comparison;
 mod copy;
 mod drop;
 mod equality;
+mod failed_operation;
 mod float_search;
 mod inverse;
 mod later;
@@ -66,8 +68,11 @@ mod undo;
 pub use apart::are_apart;
 pub use comparison::Comparison;
 pub use equality::is_equal;
-pub use inverse::{apply_comparing_with_inverse, apply_with_inverse};
+pub use failed_operation::{FailedOperation, PatchPointer};
+pub use inverse::{
+    apply_comparing_with_inverse, apply_naming_pointer_with_inverse, apply_with_inverse,
+};
 pub use move_value::is_proper_prefix;
 pub use operation::{Operation, PatchError};
-pub use patch::{apply, apply_comparing};
+pub use patch::{apply, apply_comparing, apply_naming_pointer};
 pub use undo::delete_with_undo;

@@ -14,6 +14,7 @@ ghost use Rattle.jsonptr_patch.specs.PrivateLater.{IsMemberAt};
 ghost use Rattle.jsonptr_patch.specs.PrivateRecording.{Records};
 
 use crate::add::target_of;
+use crate::failed_operation::{FailedOperation, PatchPointer};
 use crate::later::moved_location;
 use crate::operation::PatchError;
 use crate::target::target;
@@ -39,7 +40,7 @@ pub fn move_value(
     journal: &mut Journal,
     from: Pointer<'_>,
     path: Pointer<'_>,
-) -> Result<(), Fault<PatchError>>
+) -> Result<(), Fault<FailedOperation>>
     ensures moved { IfOk result (λ _. Moves (nodes (view document.old)) (tokens from.entry)
         (tokens path.entry) (nodes (view document.new))) }
     ensures sorted { IfOk result (λ _.
@@ -65,7 +66,7 @@ pub fn move_last(
     document: &mut Value,
     from: Pointer<'_>,
     path: Pointer<'_>,
-) -> Result<(), Fault<PatchError>>
+) -> Result<(), Fault<FailedOperation>>
     ensures moved { IfOk result (λ _. Moves (nodes (view document.old)) (tokens from.entry)
         (tokens path.entry) (nodes (view document.new))) }
     ensures sorted { IfOk result (λ _.
@@ -90,7 +91,7 @@ fn move_any(
     document: &mut Value,
     from: Pointer<'_>,
     path: Pointer<'_>,
-) -> Result<(), Fault<PatchError>>
+) -> Result<(), Fault<FailedOperation>>
     ensures moved { IfOk result (λ _. Moves (nodes (view document.old)) (tokens from.entry)
         (tokens path.entry) (nodes (view document.new))) }
     ensures sorted { IfOk result (λ _.
@@ -114,7 +115,7 @@ fn move_member(
     from: Pointer<'_>,
     path: Pointer<'_>,
     location: Location,
-) -> Result<(), Fault<PatchError>>
+) -> Result<(), Fault<FailedOperation>>
     requires diverges { Diverges (nodes (view document.old)) (tokens from) (tokens path) }
     requires member { IsMemberAt (nodes (view document.old)) (tokens from) (path_of location) }
     ensures moved { IfOk result (λ _. Moves (nodes (view document.old)) (tokens from.entry)
@@ -150,7 +151,7 @@ fn moved(
     document: &mut Value,
     from: Pointer<'_>,
     path: Pointer<'_>,
-) -> Result<Entry, Fault<PatchError>>
+) -> Result<Entry, Fault<FailedOperation>>
     ensures moved { IfOk result (λ _. Moves (nodes (view document.old)) (tokens from.entry)
         (tokens path.entry) (nodes (view document.new))) }
     ensures sorted { IfOk result (λ _.
@@ -162,11 +163,11 @@ fn moved(
     ensures unchanged { OnErr result (view document.new ≡ view document.old) }
 {
     if is_proper_prefix(from, path) {
-        return Err(Fault::Refused(PatchError::MoveIntoSelf {
+        return Err(Fault::Refused(FailedOperation::at_no_pointer(PatchError::MoveIntoSelf {
             operation: turn.number,
-        }));
+        })));
     }
-    let location = target(turn, document, from)?;
+    let location = target(turn, document, PatchPointer::From, from)?;
     let Taken { value, removal } = remove(turn.alloc, document, location)?;
     match add_taken(turn, document, path, value) {
         Ok(addition) => Ok(Entry::Moved(removal, addition)),
@@ -183,7 +184,7 @@ pub struct AddError {
     /// The value.
     pub value: Value,
     /// Why it could not be added.
-    pub fault: Fault<PatchError>,
+    pub fault: Fault<FailedOperation>,
 }
 
 impl From<AllocFailed<Value>> for AddError {

@@ -7,13 +7,14 @@ ghost use Rattle.jsonptr.specs.Node.{NodeMap};
 ghost use Rattle.jsonptr_patch.specs.Memory.{TestNeedsNoMemory, LastNeedsNoMemory, PatchNeedsNoMemory};
 ghost use Rattle.jsonptr_patch.specs.Operating.{AppliesBy, RefusesOperationBy};
 ghost use Rattle.jsonptr_patch.specs.Order.{OperationHasSortedKeys};
-ghost use Rattle.jsonptr_patch.specs.Patching.{Patches, PatchesBy, RefusesPatch, RefusesPatchBy};
+ghost use Rattle.jsonptr_patch.specs.Patching.{Patches, PatchesBy, FailsBy, RefusesPatch, RefusesPatchBy};
 ghost use Rattle.jsonptr_patch.specs.PrivateLater.{IsPending};
 ghost use Rattle.jsonptr_patch.specs.PrivateRecording.{CanUndo, Records};
 
 use crate::add::{add, add_last};
 use crate::comparison::Comparison;
 use crate::copy::{copy, copy_last};
+use crate::failed_operation::{FailedOperation, without_pointer};
 use crate::later::{record_or_wait, settle, unlink};
 use crate::move_value::{move_last, move_value};
 use crate::operation::{Operation, PatchError};
@@ -118,6 +119,45 @@ pub fn apply_comparing(
     ensures unchanged { OnErr result (view document.new ≡ view document.old) }
     ensures no_memory { PatchNeedsNoMemory patch.items → HasMemory result }
 {
+    match apply_naming_pointer(alloc, document, patch, comparison) {
+        Ok(()) => Ok(()),
+        Err(fault) => Err(without_pointer(fault)),
+    }
+}
+
+/// Applies the operations in order, as [`apply_comparing`] does, and names the pointer at fault of an
+/// operation that fails: of a move and of a copy, which have two, [`PatchError::NoTarget`] does not say
+/// which of them leads nowhere.
+///
+/// ```rust
+/// let mut document = json!(in alloc; {"size": 3})?;
+/// let from = PointerBuf::from_text(alloc, "/size")?;
+/// let path = PointerBuf::from_text(alloc, "/sizes/-")?;
+/// let patch = vec![in alloc; Operation::Copy { from, path }]?;
+/// let applied = apply_naming_pointer(alloc, &mut document, patch, Comparison::Strict);
+/// let failed = applied.err().ok_or("an error")?.refused()?;
+/// assert_eq!(rt; failed.pointer, Some(PatchPointer::Path));
+/// ```
+///
+/// # Errors
+///
+/// Those of [`apply_comparing`], each in a [`FailedOperation`]. The document is unchanged.
+pub fn apply_naming_pointer(
+    alloc: Global,
+    document: &mut Value,
+    patch: Vec<Operation>,
+    comparison: Comparison,
+) -> Result<(), Fault<FailedOperation>>
+    ensures applied { IfOk result (λ _.
+        PatchesBy comparison (nodes (view document.old)) patch.items (nodes (view document.new))) }
+    ensures sorted { IfOk result (λ _. All OperationHasSortedKeys patch.items
+        → HasSortedKeys (view document.old) → HasSortedKeys (view document.new)) }
+    ensures empty { patch.items ≡ [] → IsOk result }
+    ensures refused { IfRefused result
+        (FailsBy comparison (nodes (view document.old)) patch.items) }
+    ensures unchanged { OnErr result (view document.new ≡ view document.old) }
+    ensures no_memory { PatchNeedsNoMemory patch.items → HasMemory result }
+{
     let mut operations = patch;
     let Some(last) = operations.pop() else {
         return Ok(());
@@ -148,7 +188,7 @@ fn apply_all(
     run: &mut Run,
     operations: Vec<Operation>,
     last: Operation,
-) -> Result<(), Fault<PatchError>>
+) -> Result<(), Fault<FailedOperation>>
     requires start { first.number ≡ 0 }
     requires undone { CanUndo run.old.journal document.old }
     requires none { run.old.later.items ≡ [] }
@@ -158,7 +198,7 @@ fn apply_all(
         All OperationHasSortedKeys operations.items → OperationHasSortedKeys last
         → HasSortedKeys (view document.old) → HasSortedKeys (view document.new)) }
     ensures refused { IfRefused result
-        (RefusesPatchBy first.comparison (nodes (view document.old)) (operations.items ++ last ∷ [])) }
+        (FailsBy first.comparison (nodes (view document.old)) (operations.items ++ last ∷ [])) }
     ensures undone { OnErr result (Records run.old.journal document.old run.new.journal document.new) }
     ensures no_memory { All TestNeedsNoMemory operations.items → LastNeedsNoMemory last
         → HasMemory result }
@@ -179,7 +219,7 @@ fn record_all(
     document: &mut Value,
     run: &mut Run,
     operations: Vec<Operation>,
-) -> Result<(), Fault<PatchError>>
+) -> Result<(), Fault<FailedOperation>>
     requires start { first.number ≡ 0 }
     requires undone { CanUndo run.old.journal document.old }
     requires none { run.old.later.items ≡ [] }
@@ -188,7 +228,7 @@ fn record_all(
         × IsPending (nodes (view document.new)) run.new.later.items n) }
     ensures sorted { IfOk result (λ _. All OperationHasSortedKeys operations.items
         → HasSortedKeys (view document.old) → HasSortedKeys (view document.new)) }
-    ensures refused { IfRefused result (RefusesPatchBy first.comparison (nodes (view document.old)) operations.items) }
+    ensures refused { IfRefused result (FailsBy first.comparison (nodes (view document.old)) operations.items) }
     ensures undone { Records run.old.journal document.old run.new.journal document.new }
     ensures no_memory { All TestNeedsNoMemory operations.items → HasMemory result }
     ensures none { IfOk result (λ _.
@@ -214,7 +254,7 @@ fn finish(
     document: &mut Value,
     run: &mut Run,
     last: Operation,
-) -> Result<(), Fault<PatchError>>
+) -> Result<(), Fault<FailedOperation>>
     requires undone { CanUndo run.old.journal document.old }
     requires pending { (n : NodeMap) × IsPending (nodes (view document.old)) run.old.later.items n }
     ensures applied { IfOk result (λ _. (n : NodeMap)
@@ -249,7 +289,7 @@ pub fn record(
     document: &mut Value,
     journal: &mut Journal,
     operation: Operation,
-) -> Result<(), Fault<PatchError>>
+) -> Result<(), Fault<FailedOperation>>
     requires { CanUndo journal.old document.old }
     ensures applied { IfOk result (λ _.
         AppliesBy turn.comparison (nodes (view document.old)) operation (nodes (view document.new))) }
@@ -283,7 +323,7 @@ fn apply_last(
     turn: Turn,
     document: &mut Value,
     operation: Operation,
-) -> Result<(), Fault<PatchError>>
+) -> Result<(), Fault<FailedOperation>>
     ensures applied { IfOk result (λ _.
         AppliesBy turn.comparison (nodes (view document.old)) operation (nodes (view document.new))) }
     ensures sorted { IfOk result (λ _. OperationHasSortedKeys operation

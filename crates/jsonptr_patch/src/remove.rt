@@ -8,9 +8,10 @@ ghost use Rattle.jsonptr.specs.Pointer.{tokens};
 ghost use Rattle.jsonptr.specs.Text.{HasNoTilde, text};
 ghost use Rattle.jsonptr_patch.specs.Operating.{Takes, RefusesTarget};
 ghost use Rattle.jsonptr_patch.specs.PrivateRecording.{CanUndo, Records};
+ghost use Rattle.jsonptr_patch.specs.declared.failed_operation.PatchPointer.TheVariants as pointer;
 
 use crate::drop::discard_small;
-use crate::operation::PatchError;
+use crate::failed_operation::{FailedOperation, PatchPointer};
 use crate::target::{no_target, target};
 use crate::turn::Turn;
 use jsonptr::{Fault, Pointer};
@@ -34,17 +35,17 @@ pub fn remove(
     document: &mut Value,
     journal: &mut Journal,
     path: Pointer<'_>,
-) -> Result<(), Fault<PatchError>>
+) -> Result<(), Fault<FailedOperation>>
     requires { CanUndo journal.old document.old }
     ensures removed { IfOk result (λ _. (v : NodeMap)
         × Takes (nodes (view document.old)) (tokens path.entry) v (nodes (view document.new))) }
     ensures sorted { IfOk result (λ _.
         HasSortedKeys (view document.old) → HasSortedKeys (view document.new)) }
     ensures refused { IfRefused result
-        (RefusesTarget (nodes (view document.old)) turn.number (tokens path.entry)) }
+        (RefusesTarget (nodes (view document.old)) turn.number pointer.Path (tokens path.entry)) }
     ensures undone { Records journal.old document.old journal.new document.new }
 {
-    let location = target(turn, document, path)?;
+    let location = target(turn, document, PatchPointer::Path, path)?;
     journal.remove(turn.alloc, document, location)?;
     Ok(())
 }
@@ -59,13 +60,13 @@ pub fn remove_last(
     turn: Turn,
     document: &mut Value,
     path: Pointer<'_>,
-) -> Result<(), Fault<PatchError>>
+) -> Result<(), Fault<FailedOperation>>
     ensures removed { IfOk result (λ _. (v : NodeMap)
         × Takes (nodes (view document.old)) (tokens path.entry) v (nodes (view document.new))) }
     ensures sorted { IfOk result (λ _.
         HasSortedKeys (view document.old) → HasSortedKeys (view document.new)) }
     ensures refused { IfRefused result
-        (RefusesTarget (nodes (view document.old)) turn.number (tokens path.entry)) }
+        (RefusesTarget (nodes (view document.old)) turn.number pointer.Path (tokens path.entry)) }
     ensures unchanged { OnErr result (view document.new ≡ view document.old) }
     ensures no_memory { HasNoTilde (text (tokens path.entry)) → HasMemory result }
 {
@@ -74,6 +75,9 @@ pub fn remove_last(
             discard_small(value);
             Ok(())
         }
-        None => Err(no_target(turn.number, resolve_error(turn.alloc, document, path))),
+        None => {
+            let fault = resolve_error(turn.alloc, document, path);
+            Err(no_target(turn.number, PatchPointer::Path, fault))
+        }
     }
 }

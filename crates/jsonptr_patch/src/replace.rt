@@ -8,8 +8,9 @@ ghost use Rattle.jsonptr.specs.Resolve.{PutsAt};
 ghost use Rattle.jsonptr.specs.Text.{HasNoTilde, text};
 ghost use Rattle.jsonptr_patch.specs.Operating.{RefusesTarget};
 ghost use Rattle.jsonptr_patch.specs.PrivateRecording.{Records};
+ghost use Rattle.jsonptr_patch.specs.declared.failed_operation.PatchPointer.TheVariants as pointer;
 
-use crate::operation::PatchError;
+use crate::failed_operation::{FailedOperation, PatchPointer};
 use crate::target::{no_target, target};
 use crate::turn::Turn;
 use jsonptr::{Fault, Pointer, PointerBuf, ResolveMut};
@@ -35,12 +36,12 @@ pub fn replace(
     journal: &mut Journal,
     path: PointerBuf,
     value: Value,
-) -> Result<(), Fault<PatchError>>
+) -> Result<(), Fault<FailedOperation>>
     ensures replaced { IfOk result (λ _. PutsAt (nodes (view document.old)) path
         (nodes (view value)) (nodes (view document.new))) }
     ensures sorted { IfOk result (λ _.
         HasSortedKeys (view value) → HasSortedKeys (view document.old) → HasSortedKeys (view document.new)) }
-    ensures refused { IfRefused result (RefusesTarget (nodes (view document.old)) turn.number path) }
+    ensures refused { IfRefused result (RefusesTarget (nodes (view document.old)) turn.number pointer.Path path) }
     ensures undone { Records journal.old document.old journal.new document.new }
 {
     if path.as_ptr().as_str().as_bytes().contains(&b'~') {
@@ -64,13 +65,13 @@ fn replace_plain(
     journal: &mut Journal,
     path: PointerBuf,
     value: Value,
-) -> Result<(), Fault<PatchError>>
+) -> Result<(), Fault<FailedOperation>>
     requires { HasNoTilde (text path) }
     ensures replaced { IfOk result (λ _. PutsAt (nodes (view document.old)) path
         (nodes (view value)) (nodes (view document.new))) }
     ensures sorted { IfOk result (λ _.
         HasSortedKeys (view value) → HasSortedKeys (view document.old) → HasSortedKeys (view document.new)) }
-    ensures refused { IfRefused result (RefusesTarget (nodes (view document.old)) turn.number path) }
+    ensures refused { IfRefused result (RefusesTarget (nodes (view document.old)) turn.number pointer.Path path) }
     ensures undone { Records journal.old document.old journal.new document.new }
 {
     if let Err(error) = journal.reserve(turn.alloc) {
@@ -97,16 +98,16 @@ fn replace_located(
     journal: &mut Journal,
     path: Pointer<'_>,
     value: Value,
-) -> Result<(), Fault<PatchError>>
+) -> Result<(), Fault<FailedOperation>>
     ensures replaced { IfOk result (λ _. PutsAt (nodes (view document.old)) (tokens path.entry)
         (nodes (view value)) (nodes (view document.new))) }
     ensures sorted { IfOk result (λ _.
         HasSortedKeys (view value) → HasSortedKeys (view document.old) → HasSortedKeys (view document.new)) }
     ensures refused { IfRefused result
-        (RefusesTarget (nodes (view document.old)) turn.number (tokens path.entry)) }
+        (RefusesTarget (nodes (view document.old)) turn.number pointer.Path (tokens path.entry)) }
     ensures undone { Records journal.old document.old journal.new document.new }
 {
-    let location = match target(turn, document, path) {
+    let location = match target(turn, document, PatchPointer::Path, path) {
         Ok(location) => location,
         Err(fault) => {
             discard(value);
@@ -128,13 +129,13 @@ pub fn replace_last(
     document: &mut Value,
     path: Pointer<'_>,
     value: Value,
-) -> Result<(), Fault<PatchError>>
+) -> Result<(), Fault<FailedOperation>>
     ensures replaced { IfOk result (λ _. PutsAt (nodes (view document.old)) (tokens path.entry)
         (nodes (view value)) (nodes (view document.new))) }
     ensures sorted { IfOk result (λ _.
         HasSortedKeys (view value) → HasSortedKeys (view document.old) → HasSortedKeys (view document.new)) }
     ensures refused { IfRefused result
-        (RefusesTarget (nodes (view document.old)) turn.number (tokens path.entry)) }
+        (RefusesTarget (nodes (view document.old)) turn.number pointer.Path (tokens path.entry)) }
     ensures unchanged { OnErr result (view document.new ≡ view document.old) }
     ensures no_memory { HasNoTilde (text (tokens path.entry)) → HasMemory result }
 {
@@ -143,7 +144,7 @@ pub fn replace_last(
             discard(old);
             Ok(())
         }
-        Err(fault) => Err(no_target(turn.number, fault)),
+        Err(fault) => Err(no_target(turn.number, PatchPointer::Path, fault)),
     }
 }
 

@@ -7,8 +7,9 @@ ghost use Rattle.jsonptr.specs.Node.{Names};
 ghost use Rattle.jsonptr.specs.Pointer.{tokens};
 ghost use Rattle.jsonptr_journal.specs.Location.{path_of};
 ghost use Rattle.jsonptr_patch.specs.Operating.{RefusesTarget};
-ghost use Rattle.jsonptr_patch.specs.PrivateAdding.{patch_error_at};
+ghost use Rattle.jsonptr_patch.specs.Failing.{fault_at};
 
+use crate::failed_operation::{FailedOperation, PatchPointer};
 use crate::operation::PatchError;
 use crate::turn::Turn;
 use jsonptr::{Fault, Pointer, resolve};
@@ -16,17 +17,24 @@ use jsonptr_journal::locate::locate;
 use jsonptr_journal::location::Location;
 use serde_json::Value;
 
-/// Converts the fault of a pointer that does not resolve to that of the operation with this number.
-pub fn no_target(number: usize, fault: Fault<resolve::Error>) -> Fault<PatchError>
-    ensures { result ≡ patch_error_at number fault }
+/// Converts the fault of this pointer, which does not resolve, to that of the operation with this number.
+pub fn no_target(
+    number: usize,
+    pointer: PatchPointer,
+    fault: Fault<resolve::Error>,
+) -> Fault<FailedOperation>
+    ensures { result ≡ fault_at number pointer fault }
 {
-    fault.map(|cause| PatchError::NoTarget {
-        operation: number,
-        cause,
+    fault.map(|cause| FailedOperation {
+        error: PatchError::NoTarget {
+            operation: number,
+            cause,
+        },
+        pointer: Some(pointer),
     })
 }
 
-/// Returns the location of the value that the pointer resolves to.
+/// Returns the location of the value that the pointer resolves to, which is this one of the operation.
 ///
 /// # Errors
 ///
@@ -35,15 +43,16 @@ pub fn no_target(number: usize, fault: Fault<resolve::Error>) -> Fault<PatchErro
 pub fn target(
     turn: Turn,
     document: &Value,
+    pointer: PatchPointer,
     path: Pointer<'_>,
-) -> Result<Location, Fault<PatchError>>
+) -> Result<Location, Fault<FailedOperation>>
     ensures found { IfOk result (λ location.
         Names (nodes (view document.now)) (tokens path.entry) (path_of location)) }
     ensures refused { IfRefused result
-        (RefusesTarget (nodes (view document.now)) turn.number (tokens path.entry)) }
+        (RefusesTarget (nodes (view document.now)) turn.number pointer (tokens path.entry)) }
 {
     match locate(turn.alloc, document, path) {
         Ok(located) => Ok(located.location),
-        Err(fault) => Err(no_target(turn.number, fault)),
+        Err(fault) => Err(no_target(turn.number, pointer, fault)),
     }
 }

@@ -11,6 +11,7 @@ ghost use Rattle.jsonptr_patch.specs.declared.comparison.Comparison.TheVariants.
 
 use crate::comparison::Comparison;
 use crate::equality::is_equal;
+use crate::failed_operation::{FailedOperation, PatchPointer};
 use crate::float_search::contains_float;
 use crate::operation::PatchError;
 use crate::target::no_target;
@@ -29,7 +30,7 @@ pub fn test(
     document: &Value,
     path: Pointer<'_>,
     value: &Value,
-) -> Result<(), Fault<PatchError>>
+) -> Result<(), Fault<FailedOperation>>
     ensures passes { IfOk result (λ _. PassesBy turn.comparison (nodes (view document.now)) (tokens path.entry)
         (nodes (view value.now))) }
     ensures refused { IfRefused result
@@ -42,7 +43,7 @@ pub fn test(
             Comparison::Strict => compare(turn, target, value),
             Comparison::Numeric => compare_numerically(turn, target, value),
         },
-        Err(fault) => Err(no_target(turn.number, fault)),
+        Err(fault) => Err(no_target(turn.number, PatchPointer::Path, fault)),
     }
 }
 
@@ -52,21 +53,21 @@ pub fn test(
 ///
 /// [`PatchError::TestFloat`] if one of the two contains a float, and [`PatchError::TestFailed`] if
 /// they differ.
-fn compare(turn: Turn, target: &Value, value: &Value) -> Result<(), Fault<PatchError>>
+fn compare(turn: Turn, target: &Value, value: &Value) -> Result<(), Fault<FailedOperation>>
     ensures passes { IfOk result (λ _.
         IsPlain target.now × IsPlain value.now × SameValue target.now value.now) }
     ensures refused { IfRefused result (RefusesCompare turn.number target.now value.now) }
     ensures no_memory { HasMemory result }
 {
     if contains_float(turn.alloc, target) || contains_float(turn.alloc, value) {
-        return Err(Fault::Refused(PatchError::TestFloat {
+        return Err(Fault::Refused(FailedOperation::at_no_pointer(PatchError::TestFloat {
             operation: turn.number,
-        }));
+        })));
     }
     if !is_equal(target, value, Comparison::Strict) {
-        return Err(Fault::Refused(PatchError::TestFailed {
+        return Err(Fault::Refused(FailedOperation::at_no_pointer(PatchError::TestFailed {
             operation: turn.number,
-        }));
+        })));
     }
     Ok(())
 }
@@ -77,15 +78,19 @@ fn compare(turn: Turn, target: &Value, value: &Value) -> Result<(), Fault<PatchE
 /// # Errors
 ///
 /// [`PatchError::TestFailed`] if they differ.
-fn compare_numerically(turn: Turn, target: &Value, value: &Value) -> Result<(), Fault<PatchError>>
+fn compare_numerically(
+    turn: Turn,
+    target: &Value,
+    value: &Value,
+) -> Result<(), Fault<FailedOperation>>
     ensures passes { IfOk result (λ _. SameValueBy Numeric target.now value.now) }
     ensures refused { IfRefused result (DiffersNumerically turn.number target.now value.now) }
     ensures no_memory { HasMemory result }
 {
     if !is_equal(target, value, Comparison::Numeric) {
-        return Err(Fault::Refused(PatchError::TestFailed {
+        return Err(Fault::Refused(FailedOperation::at_no_pointer(PatchError::TestFailed {
             operation: turn.number,
-        }));
+        })));
     }
     Ok(())
 }

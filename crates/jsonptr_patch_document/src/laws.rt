@@ -76,7 +76,7 @@ pub fn writing_law()
     patch_document_law();
 }
 
-/// States how deep the document of what takes a patch back nests. The keys of its values are sorted.
+/// States how deep the document of what takes a patch back nests, where the keys of its values are sorted.
 ///
 /// - It is deeper than `k + 2` only if some node is deeper than `k` in the document before an operation, or in what
 ///   a move has left of that document.

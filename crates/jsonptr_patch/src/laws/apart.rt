@@ -4,8 +4,8 @@ ghost use Rattle.jsonptr.specs.Node.{NodeMap};
 ghost use Rattle.jsonptr.specs.Text.{Text};
 ghost use Rattle.jsonptr_patch.specs.Operating.{Applies, RefusesOperation};
 ghost use Rattle.jsonptr_patch.specs.Patching.{Patches};
+ghost use Rattle.jsonptr_patch.specs.declared.failed_operation.FailedOperation.{FailedOperation};
 ghost use Rattle.jsonptr_patch.specs.declared.operation.Operation.{Operation};
-ghost use Rattle.jsonptr_patch.specs.declared.operation.PatchError.{PatchError};
 ghost use Rattle.jsonptr_patch.specs.Apart.{Diverges, AreApart, PatchesAreApart};
 
 /// States that two operations that are apart can be applied in either order.
@@ -20,7 +20,7 @@ pub fn apart_law()
         ↔ ((l : NodeMap) × Applies n p l × Applies l o m) }
     ensures both { (n a b : NodeMap) (o p : Operation) → AreApart n o p
         → Applies n o a → Applies n p b → (m : NodeMap) × Applies a p m × Applies b o m }
-    ensures refused { (n m : NodeMap) (k : ℕ) (o p : Operation) (e : PatchError) → AreApart n o p
+    ensures refused { (n m : NodeMap) (k : ℕ) (o p : Operation) (e : FailedOperation) → AreApart n o p
         → Applies n p m → RefusesOperation n k o e → RefusesOperation m k o e }
     ensures patches { (n m : NodeMap) (os ps : List Operation) → PatchesAreApart n os ps
         → Patches n (os ++ ps) m ↔ Patches n (ps ++ os) m }

@@ -11,24 +11,25 @@ ghost use Rattle.jsonptr.specs.Text.{Text};
 ghost use Rattle.jsonptr.specs.Documents.{IsDocument};
 ghost use Rattle.jsonptr_patch.specs.Operating.{IsProperPrefix, Applies, AppliesBy, RestoresAt, RefusesOperation, RefusesOperationBy};
 ghost use Rattle.jsonptr_patch.specs.declared.comparison.Comparison.{Comparison};
+ghost use Rattle.jsonptr_patch.specs.declared.failed_operation.FailedOperation.{FailedOperation};
 ghost use Rattle.jsonptr_patch.specs.declared.operation.Operation.{Operation};
 ghost use Rattle.jsonptr_patch.specs.declared.operation.Operation.TheVariants as operation;
-ghost use Rattle.jsonptr_patch.specs.declared.operation.PatchError.{PatchError};
 ghost use Rattle.jsonptr_patch.specs.Operations.{IsOperation};
 
 use jsonptr_laws::assign::assign_law;
 use jsonptr_laws::resolve::resolve_law;
 
 /// States that in each document each operation either makes exactly one map, which is a document's
-/// again, or fails with exactly one error, which is unique in all its fields.
+/// again, or fails with exactly one error, which is unique in all its fields, at exactly one of its pointers
+/// or at none.
 pub fn operation_law()
     ensures some { (n : NodeMap) (k : ℕ) (o : Operation) → IsDocument n → IsOperation o
-        → ((m : NodeMap) × Applies n o m) ⊎ ((e : PatchError) × RefusesOperation n k o e) }
-    ensures not_both { (n m : NodeMap) (k : ℕ) (o : Operation) (e : PatchError)
+        → ((m : NodeMap) × Applies n o m) ⊎ ((e : FailedOperation) × RefusesOperation n k o e) }
+    ensures not_both { (n m : NodeMap) (k : ℕ) (o : Operation) (e : FailedOperation)
         → IsTree n → Applies n o m → RefusesOperation n k o e → ⊥ }
     ensures one_map { (n m l : NodeMap) (o : Operation)
         → IsTree n → Applies n o m → Applies n o l → m ≡ l }
-    ensures one_error { (n : NodeMap) (k : ℕ) (o : Operation) (e f : PatchError)
+    ensures one_error { (n : NodeMap) (k : ℕ) (o : Operation) (e f : FailedOperation)
         → IsTree n → RefusesOperation n k o e → RefusesOperation n k o f → e ≡ f }
     ensures document { (n m : NodeMap) (o : Operation)
         → IsDocument n → Applies n o m → IsDocument m }
@@ -42,12 +43,12 @@ pub fn operation_law()
 pub fn comparing_operation_law()
     ensures some { (c : Comparison) (n : NodeMap) (k : ℕ) (o : Operation)
         → IsDocument n → IsOperation o
-        → ((m : NodeMap) × AppliesBy c n o m) ⊎ ((e : PatchError) × RefusesOperationBy c n k o e) }
-    ensures not_both { (c : Comparison) (n m : NodeMap) (k : ℕ) (o : Operation) (e : PatchError)
+        → ((m : NodeMap) × AppliesBy c n o m) ⊎ ((e : FailedOperation) × RefusesOperationBy c n k o e) }
+    ensures not_both { (c : Comparison) (n m : NodeMap) (k : ℕ) (o : Operation) (e : FailedOperation)
         → IsTree n → AppliesBy c n o m → RefusesOperationBy c n k o e → ⊥ }
     ensures one_map { (c : Comparison) (n m l : NodeMap) (o : Operation)
         → IsTree n → AppliesBy c n o m → AppliesBy c n o l → m ≡ l }
-    ensures one_error { (c : Comparison) (n : NodeMap) (k : ℕ) (o : Operation) (e f : PatchError)
+    ensures one_error { (c : Comparison) (n : NodeMap) (k : ℕ) (o : Operation) (e f : FailedOperation)
         → IsTree n → RefusesOperationBy c n k o e → RefusesOperationBy c n k o f → e ≡ f }
     ensures document { (c : Comparison) (n m : NodeMap) (o : Operation)
         → IsDocument n → AppliesBy c n o m → IsDocument m }

@@ -12,4 +12,4 @@ pub returns-clause-refused : goal.returns-clause-refused
 returns-clause-refused c =
     let located = c.in-Ok.ensures.located in
     let scalar = ap (option_map label_of) located.there ∙ c.in-Leaf.ensures.1 in
-    inl (_, refl, scalar_lacks _ _ _ _ _ _ _ _ c.in-Some.ensures located.named scalar c.count.ensures (c.len-in-Leaf.ensures ∙ ap length (sym c.in-Some.front.inner.valid)))
+    inl (_, c.at_path-in-Leaf.ensures, scalar_lacks _ _ _ _ _ _ _ _ c.in-Some.ensures located.named scalar c.count.ensures (c.len-in-Leaf.ensures ∙ ap length (sym c.in-Some.front.inner.valid)))

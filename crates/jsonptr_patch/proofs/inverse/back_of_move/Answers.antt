@@ -8,6 +8,7 @@ use Rattle.jsonptr_walk.proofs.FollowLemmas.{refused_on}
 use Rattle.jsonptr_journal.specs.Location.{path_of, contents_of}
 use Rattle.jsonptr_patch.specs.Inverse.{TakesMoveBack}
 use Rattle.jsonptr_patch.specs.Operating.{RefusesTarget}
+use Rattle.jsonptr_patch.specs.declared.failed_operation.PatchPointer.TheVariants as pointer
 use Rattle.jsonptr_patch.specs.Apart.{Diverges}
 use Rattle.jsonptr_patch.proofs.ApartnessLemmas.{alone, both_alone, fails}
 use Rattle.jsonptr_patch.proofs.BackLemmas.{way_taken_back, way_add_refused}
@@ -52,7 +53,7 @@ pub returns-clause-refused : goal.returns-clause-refused
 returns-clause-refused c = refused_all c.append_reverse.result _ _
     (λ e r. inr (
       (λ f. true≢false (sym (c.is_proper_prefix.ensures.1 f) ∙ c.if-is_proper_prefix.false)),
-      inl (subst (λ (x : Data). RefusesTarget (nodes x) c.args.turn.number (tokens c.args.from) e) c.in_ok-back.ensures.unchanged r),
+      inl (subst (λ (x : Data). RefusesTarget (nodes x) c.args.turn.number pointer.From (tokens c.args.from) e) c.in_ok-back.ensures.unchanged r),
     ))
     c.append_reverse.ensures.refused
 
