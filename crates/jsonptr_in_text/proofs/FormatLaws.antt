@@ -8,9 +8,10 @@ use Rattle.jsonptr.specs.Json.{nodes, FindsValue}
 use Rattle.jsonptr_tree.proofs.JsonLemmas.{FindsValue-Finds, FindsValue_one}
 use Rattle.jsonptr.specs.declared.resolve.Error.{Error}
 use Rattle.jsonptr.proofs.Calling.{Refuses-NamesNothing}
-use Rattle.jsonptr_in_text.specs.Format.{IsFormatted, laid_out}
+use Rattle.jsonptr_in_text.specs.Format.{IsFormatted, HasTokensOf, laid_out}
 use Rattle.jsonptr_in_text.specs.InText.{FindsInText, RefusesInText}
 use Rattle.jsonptr_in_text.specs.declared.format.Format.{Format}
+use Rattle.jsonptr_in_text.proofs.FormatLemmas.{is_form}
 
 pub one_form : (format : Format) (text new other : Text) → IsFormatted format text new → IsFormatted format text other → new ≡ other
 one_form format text new other h k = h.layout ∙ sym k.layout
@@ -49,6 +50,10 @@ same_values format text new tokens v h =
 pub same_errors : (format : Format) (text new : Text) (tokens : List Text) (e : Error) → IsFormatted format text new → (RefusesInText text tokens e ↔ RefusesInText new tokens e)
 same_errors format text new tokens e h =
     (λ x. (x.0, h.reads ∙ (sym h.from ∙ x.1), x.2), λ x. (x.0, h.from ∙ (sym h.reads ∙ x.1), x.2))
+
+pub form_of_tokens : (format : Format) (text new : Text) (d : Data) → read text ≡ Some d → (HasTokensOf format text new ↔ IsFormatted format text new)
+form_of_tokens format text new d is =
+    (λ h. is_form format text new d is h, λ k. record { same = k.same; layout = k.layout })
 
 -- ---- outcomes
 

@@ -1,5 +1,5 @@
 -- A text that is read has no bad token, and is read by its tokens alone.
-use Rattle.std.proofs.Common.{◌≡◌, ℕ, zero, suc, Bool, true, false, List, [], ◌∷◌, length, Option, Some, None, option_and_then, refl, sym, ap, ◌∙◌, subst}
+use Rattle.std.proofs.Common.{◌≡◌, ℕ, zero, suc, List, [], ◌∷◌, length, Option, Some, None, option_and_then, refl, sym, ap, ◌∙◌, subst}
 use Rattle.json.specs.Token.{Token}
 use Rattle.json.specs.Lex.{tokens}
 use Rattle.json.specs.Json as json
@@ -8,11 +8,8 @@ use Rattle.json.proofs.Grammar.{left, left-parse_map, closed_array, key_token, r
 use Rattle.serde_json.specs.Data.{Data}
 use Rattle.serde_json.specs.Read.{read, of_json, max_depth}
 use Rattle.jsonptr.specs.Text.{Text}
-use Rattle.std.specs.Bool.{MatchBool}
-use Rattle.jsonptr.specs.declared.resolve.Error.{Error}
 use Rattle.jsonptr_in_text.specs.declared.format.Format.{Format}
-use Rattle.jsonptr_in_text.specs.Format.{laid_out, IsFormatted}
-use Rattle.jsonptr_in_text.specs.InText.{FindsInText, RefusesInText}
+use Rattle.jsonptr_in_text.specs.Format.{laid_out, IsFormatted, HasTokensOf}
 use Rattle.jsonptr_in_text.specs.PrivateFormat.{HasBad}
 
 -- `Leaves p`: a bad token before what `p` takes from some tokens is not in what it takes, so it is in the others
@@ -94,14 +91,21 @@ read_by_tokens text new d same is = ap (λ ts. option_and_then of_json (option_a
 
 -- ---- a text that is laid out anew
 
-pub is_read : (text : Text) (ts : List Text) (found : Bool) → MatchBool found ((v : Data) × FindsInText text ts v) ((e : Error) × RefusesInText text ts e) → (d : Data) × (read text ≡ Some d)
-is_read text ts true h = (h.1.0, h.1.1)
-is_read text ts false h = (h.1.0, h.1.1)
-
 pub never_bad : (text : Text) → ((d : Data) × (read text ≡ Some d)) → HasBad (tokens text) → ⊥
 never_bad text is h = read_has_no_bad text is.0 is.1 h
 
-pub formatted : (format : Format) (text new : Text) → ((d : Data) × (read text ≡ Some d)) → new ≡ laid_out format (tokens text) → tokens (laid_out format (tokens text)) ≡ tokens text → IsFormatted format text new
-formatted format text new is layout back =
-    let same : tokens new ≡ tokens text = ap tokens layout ∙ back in
-    record { document = is.0; from = is.1; same = same; layout = layout; reads = read_by_tokens text new is.0 same is.1 }
+-- a text with the tokens of one that is read is its form
+pub is_form : (format : Format) (text new : Text) (d : Data) → read text ≡ Some d → HasTokensOf format text new → IsFormatted format text new
+is_form format text new d is h =
+    record { document = d; from = is; same = h.same; layout = h.layout; reads = read_by_tokens text new d h.same is }
+
+pub has_tokens : (format : Format) (text new : Text) → new ≡ laid_out format (tokens text) → tokens (laid_out format (tokens text)) ≡ tokens text → HasTokensOf format text new
+has_tokens format text new layout back = record { same = ap tokens layout ∙ back; layout = layout }
+
+-- a text with a bad token is not read
+pub not_read : (text : Text) → HasBad (tokens text) → read text ≡ None
+not_read text h = by_outcome (read text) refl
+  where
+    by_outcome : (o : Option Data) → read text ≡ o → read text ≡ None
+    by_outcome None is = is
+    by_outcome (Some d) is = absurd (read_has_no_bad text d is h)

@@ -23,3 +23,9 @@ pub record IsFormatted (format : Format) (text new : Text) : Type 0 where
   pub same : tokens new ≡ tokens text
   pub layout : new ≡ laid_out format (tokens text)
   pub reads : read new ≡ Some document
+
+-- `HasTokensOf format text new`: `new` has the tokens of `text`, one for one, laid out in this format. Whether `text` is JSON
+-- is not said
+pub record HasTokensOf (format : Format) (text new : Text) : Type 0 where
+  pub same : tokens new ≡ tokens text
+  pub layout : new ≡ laid_out format (tokens text)

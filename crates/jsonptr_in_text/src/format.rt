@@ -9,9 +9,8 @@ ghost use Rattle.jsonptr_in_text.specs.Format.{IsFormatted, laid_out};
 ghost use Rattle.jsonptr_value.specs.Reading.{IsReadError};
 ghost use Rattle.jsonptr_in_text.specs.PrivateFormat.{HasBad, IsWritten};
 
-use crate::resolve::exists_in_text_with;
+use crate::document::is_document;
 use json::{Pretty, Reader, Scratch, Token, Writer};
-use jsonptr::Pointer;
 use jsonptr_value::ReadError;
 use std::alloc::{AllocError, Global};
 
@@ -28,8 +27,8 @@ pub enum Format {
 ///
 /// The tokens are unchanged, one for one: the members in their order, repeated ones too, and the
 /// text of each number. Only the escapes of strings are written in their shortest form. So the result
-/// is read as the same document. A number is only tested for its range. Of the document at most a
-/// member `""` at the root is built.
+/// is read as the same document. A number is only tested for its range. Nothing of the document is
+/// built.
 ///
 /// The scratch is that of any earlier call, also of one that failed.
 ///
@@ -57,7 +56,10 @@ pub fn format_text(
     ensures formatted { IfOk result (λ s. IsFormatted format text.now (string_bytes s)) }
     ensures refused { IfErr result (IsReadError text.now) }
 {
-    exists_in_text_with(alloc, scratch, text, Pointer::root())?;
+    let is_json = is_document(scratch, text)?;
+    if !is_json {
+        return Err(ReadError::NotJson);
+    }
     match lay_out(alloc, scratch, text, format)? {
         Some(text) => Ok(text),
         None => Err(ReadError::NotJson),

@@ -18,7 +18,8 @@
 //!
 //! A text that is not JSON is reported as that, even if the damage is after the value.
 //!
-//! [`format_text`] lays the tokens of a text out anew, without reading a document either.
+//! [`format_text`] lays the tokens of a text out anew, without reading a document either, and
+//! [`is_document`] returns whether a text is JSON.
 //!
 //! # Cost
 //!
@@ -32,7 +33,9 @@
 //! `rt.alloc()`, the allocator.
 #![tactic(auto)]
 
+mod both_formats;
 mod child;
+mod document;
 mod error_at;
 mod format;
 pub mod laws;
@@ -40,6 +43,8 @@ pub mod path;
 mod resolve;
 pub mod selectors;
 
+pub use both_formats::{BothFormats, format_both};
+pub use document::is_document;
 pub use format::{Format, format_text};
 pub use json::Scratch;
 pub use jsonptr_value::ReadError;

@@ -1,10 +1,10 @@
 //! Texts that are laid out anew, and the outcomes of a pointer in a text.
-ghost use Rattle.std.specs.Prelude.{◌≡◌, ◌↔◌, List, None};
+ghost use Rattle.std.specs.Prelude.{◌≡◌, ◌↔◌, List, Some, None};
 ghost use Rattle.serde_json.specs.Data.{Data};
 ghost use Rattle.serde_json.specs.Read.{read};
 ghost use Rattle.jsonptr.specs.Text.{Text};
 ghost use Rattle.jsonptr.specs.declared.resolve.Error.{Error};
-ghost use Rattle.jsonptr_in_text.specs.Format.{IsFormatted};
+ghost use Rattle.jsonptr_in_text.specs.Format.{IsFormatted, HasTokensOf};
 ghost use Rattle.jsonptr_in_text.specs.InText.{FindsInText, RefusesInText};
 ghost use Rattle.jsonptr_in_text.specs.declared.format.Format.{Format};
 
@@ -14,6 +14,8 @@ ghost use Rattle.jsonptr_in_text.specs.declared.format.Format.{Format};
 /// - To lay out a form anew is to lay out the text itself (`again`).
 /// - Each pointer resolves to the same value in both texts, or fails with the same error (`values`,
 ///   `errors`).
+/// - If a text is JSON, then what [`format_both`](crate::format_both) returns of it are its forms
+///   (`tokens`).
 pub fn format_law()
     ensures one { (format : Format) (text new other : Text)
         → IsFormatted format text new → IsFormatted format text other → new ≡ other }
@@ -25,6 +27,8 @@ pub fn format_law()
         → IsFormatted format text new → (FindsInText text tokens v ↔ FindsInText new tokens v) }
     ensures errors { (format : Format) (text new : Text) (tokens : List Text) (e : Error)
         → IsFormatted format text new → (RefusesInText text tokens e ↔ RefusesInText new tokens e) }
+    ensures tokens { (format : Format) (text new : Text) (d : Data)
+        → read text ≡ Some d → (HasTokensOf format text new ↔ IsFormatted format text new) }
 {}
 
 /// States that a pointer in a text has one outcome: a value, an error, or a text that is not JSON.

@@ -1,4 +1,4 @@
-use Rattle.jsonptr_in_text.proofs.FormatLaws.{one_form, own_form, form_again, same_values, same_errors}
+use Rattle.jsonptr_in_text.proofs.FormatLaws.{one_form, own_form, form_again, same_values, same_errors, form_of_tokens}
 use Rattle.jsonptr_in_text.proofs.laws.format.format_law.Goals as goal
 
 pub returns-clause-one : goal.returns-clause-one
@@ -15,3 +15,6 @@ returns-clause-values c = same_values
 
 pub returns-clause-errors : goal.returns-clause-errors
 returns-clause-errors c = same_errors
+
+pub returns-clause-tokens : goal.returns-clause-tokens
+returns-clause-tokens c = form_of_tokens
