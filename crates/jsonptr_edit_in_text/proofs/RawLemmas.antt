@@ -8,7 +8,7 @@ use Rattle.serde_json.specs.declared.value.Value.{Value}
 use Rattle.jsonptr.specs.Text.{Text}
 use Rattle.jsonptr_patch.specs.declared.operation.Operation.{Operation}
 use Rattle.jsonptr_patch.specs.declared.operation.Operation.TheVariants.{Add, Remove, Replace, Move, Copy, Test}
-use Rattle.jsonptr_patch.specs.declared.operation.PatchError.{PatchError}
+use Rattle.jsonptr_patch.specs.declared.failed_operation.FailedOperation.{FailedOperation}
 use Rattle.jsonptr_edit_in_text.specs.Bytes.{KeepsBytes, ReplacesBytes}
 use Rattle.jsonptr_edit_in_text.specs.Carrying.{value_of_raw}
 use Rattle.jsonptr_edit_in_text.specs.Fitting.{IsRawTextOf, HasFittingText}
@@ -40,7 +40,7 @@ pub patch_bytes : (old new : Text) (rs : List RawOperation) → RawPatchBytes ol
 patch_bytes old new [] h = h
 patch_bytes old new (r ∷ rs) h = (h.0, bytes_of old r.operation r.raw h.0 h.1, patch_bytes h.0 new rs h.2)
 
-pub kept_bytes : (r : Result Edited (EditError PatchError)) (old : Text) (rs : List RawOperation) (os : List Operation) → operations_in rs ≡ os → IfOk r (KeepsBytes (RawPatchBytes old rs)) → IfOk r (KeepsBytes (PatchBytes old os))
+pub kept_bytes : (r : Result Edited (EditError FailedOperation)) (old : Text) (rs : List RawOperation) (os : List Operation) → operations_in rs ≡ os → IfOk r (KeepsBytes (RawPatchBytes old rs)) → IfOk r (KeepsBytes (PatchBytes old os))
 kept_bytes (Err e) old rs os same h = h
 kept_bytes (Ok (InPlace s)) old rs os same h = subst (λ (l : List Operation). PatchBytes old l (string_bytes s)) same (patch_bytes old (string_bytes s) rs h)
 kept_bytes (Ok (Rewritten s)) old rs os same h = h

@@ -23,7 +23,7 @@ use Rattle.jsonptr.specs.declared.assign.Error.{Error}
 use Rattle.jsonptr_patch.specs.Order.{OperationHasSortedKeys}
 use Rattle.jsonptr_patch.specs.Patching.{PatchesBy}
 use Rattle.jsonptr_patch.specs.declared.operation.Operation.{Operation}
-use Rattle.jsonptr_patch.specs.declared.operation.PatchError.{PatchError}
+use Rattle.jsonptr_patch.specs.declared.failed_operation.FailedOperation.{FailedOperation}
 use Rattle.jsonptr_patch.specs.declared.comparison.Comparison.TheVariants.{Numeric}
 use Rattle.jsonptr_edit_in_text.specs.EditInText.{AssignsInText, IsAssignError}
 use Rattle.jsonptr_edit_in_text.specs.PatchInText.{PatchesInText, IsPatchError}
@@ -211,17 +211,17 @@ assign_fails_then old tokens front d d2 v r (Err e) reads short made sorted h = 
 
 -- the same of a patch
 
-pub patched_then : (old : Text) (os : List Operation) (d d2 : Data) (out : Result (String Global) (EditError PatchError)) → read old ≡ Some d → PatchesBy Numeric (nodes d) os (nodes d2) → IfOk out (λ s. read (string_bytes s) ≡ Some d2) → IfOk out (λ s. PatchesInText old os (string_bytes s))
+pub patched_then : (old : Text) (os : List Operation) (d d2 : Data) (out : Result (String Global) (EditError FailedOperation)) → read old ≡ Some d → PatchesBy Numeric (nodes d) os (nodes d2) → IfOk out (λ s. read (string_bytes s) ≡ Some d2) → IfOk out (λ s. PatchesInText old os (string_bytes s))
 patched_then old os d d2 (Ok s) reads made h = (d, d2, reads, h, made)
 patched_then old os d d2 (Err e) reads made h = tt
 
-patch_fault : (old : Text) (os : List Operation) (d d2 : Data) (e : EditError PatchError) → read old ≡ Some d → PatchesBy Numeric (nodes d) os (nodes d2) → (All OperationHasSortedKeys os → HasSortedKeys d2) → IsPrintError d2 e → IsPatchError old os e
+patch_fault : (old : Text) (os : List Operation) (d d2 : Data) (e : EditError FailedOperation) → read old ≡ Some d → PatchesBy Numeric (nodes d) os (nodes d2) → (All OperationHasSortedKeys os → HasSortedKeys d2) → IsPrintError d2 e → IsPatchError old os e
 patch_fault old os d d2 NotJson reads made sorted h = absurd h
 patch_fault old os d d2 (Refused e) reads made sorted h = absurd h
 patch_fault old os d d2 TooDeep reads made sorted h =
     (d, nodes d2, reads, made, λ s within. let le : depth d2 ≤ max_depth = depth-within d2 max_depth (sorted s) within in omega (arith, le, h))
 patch_fault old os d d2 (Memory e) reads made sorted h = tt
 
-pub patch_fails_then : (old : Text) (os : List Operation) (d d2 : Data) (out : Result (String Global) (EditError PatchError)) → read old ≡ Some d → PatchesBy Numeric (nodes d) os (nodes d2) → (All OperationHasSortedKeys os → HasSortedKeys d2) → IfErr out (IsPrintError d2) → IfErr out (IsPatchError old os)
+pub patch_fails_then : (old : Text) (os : List Operation) (d d2 : Data) (out : Result (String Global) (EditError FailedOperation)) → read old ≡ Some d → PatchesBy Numeric (nodes d) os (nodes d2) → (All OperationHasSortedKeys os → HasSortedKeys d2) → IfErr out (IsPrintError d2) → IfErr out (IsPatchError old os)
 patch_fails_then old os d d2 (Ok s) reads made sorted h = tt
 patch_fails_then old os d d2 (Err e) reads made sorted h = patch_fault old os d d2 e reads made sorted h

@@ -9,11 +9,11 @@ use Rattle.jsonptr.specs.Node.{NodeMap}
 use Rattle.jsonptr.specs.Json.{nodes}
 use Rattle.jsonptr_in_text.specs.InText.{FindsInText}
 use Rattle.jsonptr_patch.specs.Order.{OperationHasSortedKeys}
-use Rattle.jsonptr_patch.specs.Patching.{PatchesBy, RefusesPatchBy}
+use Rattle.jsonptr_patch.specs.Patching.{PatchesBy, FailsBy}
 use Rattle.jsonptr_patch.specs.declared.operation.Operation.{Operation}
 use Rattle.jsonptr_patch.specs.declared.operation.Operation.TheVariants.{Add, Remove, Replace, Move, Copy, Test}
-use Rattle.jsonptr_patch.specs.declared.operation.PatchError.{PatchError}
 use Rattle.jsonptr_patch.specs.declared.comparison.Comparison.TheVariants.{Numeric}
+use Rattle.jsonptr_patch.specs.declared.failed_operation.FailedOperation.{FailedOperation}
 use Rattle.jsonptr_edit_in_text.specs.Bytes.{ReplacesBytes, AddsBytes, child_piece, DeletesBytes}
 use Rattle.jsonptr_edit_in_text.specs.EditInText.{IsTooDeep}
 use Rattle.jsonptr_edit_in_text.specs.declared.edited.EditError.{EditError}
@@ -64,9 +64,9 @@ PatchBytes old (o ∷ os) new = (mid : Text) × OperationBytes old o mid × Patc
 
 -- `IsPatchError text os e`: `e` is why applying the operations `os` in the text fails, unless an allocation failed.
 -- `TooDeep` says that the new document is too deep, if the keys of their values are sorted
-abbrev pub IsPatchError : Text → List Operation → EditError PatchError → Type 0
+abbrev pub IsPatchError : Text → List Operation → EditError FailedOperation → Type 0
 IsPatchError text os NotJson = read text ≡ None
-IsPatchError text os (Refused e) = (d : Data) × (read text ≡ Some d) × RefusesPatchBy Numeric (nodes d) os e
+IsPatchError text os (Refused f) = (d : Data) × (read text ≡ Some d) × FailsBy Numeric (nodes d) os f
 IsPatchError text os TooDeep =
     (d : Data) × (m : NodeMap)
     × (read text ≡ Some d) × PatchesBy Numeric (nodes d) os m × (All OperationHasSortedKeys os → IsTooDeep m)

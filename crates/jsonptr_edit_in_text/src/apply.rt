@@ -10,18 +10,16 @@ ghost use Rattle.jsonptr_edit_in_text.specs.RawPatching.{operations_in, RawPatch
 use crate::edited::{EditError, Edited};
 use crate::operate::operate;
 use crate::raw_operation::RawOperation;
-use crate::raw_patch::{plain, printed_operations};
+use crate::raw_patch::{plain, without_texts};
 use crate::rewrite::apply_and_print;
-use jsonptr::Pointer;
-use jsonptr_in_text::exists_in_text_with;
+use jsonptr_in_text::is_document;
 use jsonptr_json_edits::buffers::Buffers;
-use jsonptr_patch::{Operation, PatchError};
-use jsonptr_value::if_json;
+use jsonptr_patch::{FailedOperation, Operation};
 use std::alloc::{AllocError, Global};
 
 /// Applies the operations of a patch in order to the document that the text contains, all of them or
-/// none, as [`apply_comparing`](jsonptr_patch::apply_comparing) does with numerical tests (RFC 6902,
-/// section 5).
+/// none, as [`apply_naming_pointer`](jsonptr_patch::apply_naming_pointer) does with numerical tests
+/// (RFC 6902, section 5).
 ///
 /// Each operation changes one piece of the text that the one before left: `add` and `copy` as
 /// [`assign_in_text`](crate::assign_in_text) does, with an element before the one at its index,
@@ -39,7 +37,8 @@ use std::alloc::{AllocError, Global};
 /// # Errors
 ///
 /// - [`EditError::NotJson`] if `serde_json` does not read the text.
-/// - [`EditError::Refused`] with the error of `apply_comparing`, if an operation fails.
+/// - [`EditError::Refused`] with the error of `apply_naming_pointer`, if an operation fails: why, and
+///   which of its pointers is at fault.
 /// - [`EditError::TooDeep`] if the new document nests deeper than 127.
 /// - [`EditError::Memory`] if an allocation fails.
 ///
@@ -57,7 +56,7 @@ pub fn apply_in_text(
     alloc: Global,
     text: &str,
     operations: Vec<Operation>,
-) -> Result<Edited, EditError<PatchError>>
+) -> Result<Edited, EditError<FailedOperation>>
     ensures applied { IfOk result
         (λ e. PatchesInText text.now operations.items (edited_text e)) }
     ensures bytes { IfOk result (KeepsBytes (PatchBytes text.now operations.items)) }
@@ -89,13 +88,13 @@ pub fn apply_in_text_with(
     buffers: &mut Buffers,
     text: &str,
     operations: Vec<Operation>,
-) -> Result<Edited, EditError<PatchError>>
+) -> Result<Edited, EditError<FailedOperation>>
     ensures applied { IfOk result
         (λ e. PatchesInText text.now operations.items (edited_text e)) }
     ensures bytes { IfOk result (KeepsBytes (PatchBytes text.now operations.items)) }
     ensures refused { IfErr result (IsPatchError text.now operations.items) }
 {
-    let raw_operations = printed_operations(alloc, operations)?;
+    let raw_operations = without_texts(alloc, operations)?;
     apply_raw_in_text_with(alloc, buffers, text, raw_operations)
 }
 
@@ -131,7 +130,7 @@ pub fn apply_raw_in_text_with(
     buffers: &mut Buffers,
     text: &str,
     operations: Vec<RawOperation>,
-) -> Result<Edited, EditError<PatchError>>
+) -> Result<Edited, EditError<FailedOperation>>
     ensures applied { IfOk result
         (λ e. PatchesInText text.now (operations_in operations.items) (edited_text e)) }
     ensures bytes { IfOk result (KeepsBytes (RawPatchBytes text.now operations.items)) }
@@ -149,7 +148,7 @@ fn apply_plain(
     alloc: Global,
     text: &str,
     raw_operations: Vec<RawOperation>,
-) -> Result<String, EditError<PatchError>>
+) -> Result<String, EditError<FailedOperation>>
     ensures applied { IfOk result
         (λ s. PatchesInText text.now (operations_in raw_operations.items) (string_bytes s)) }
     ensures refused { IfErr result (IsPatchError text.now (operations_in raw_operations.items)) }
@@ -205,7 +204,8 @@ fn unchanged(alloc: Global, buffers: &mut Buffers, text: &str) -> Result<Option<
         (λ s. PatchesInText text.now [] (string_bytes s))) }
     ensures same { IfOk result (λ new. IfSome new (λ s. string_bytes s ≡ text.now)) }
 {
-    if is_document(alloc, buffers, text)? {
+    let is_json = is_document(&mut buffers.old, text)?;
+    if is_json {
         Ok(Some(String::from_str(alloc, text)?))
     } else {
         Ok(None)
@@ -233,12 +233,4 @@ fn apply_rest(
         current = next;
     }
     Ok(Some(current))
-}
-
-/// Returns whether `serde_json` reads the text.
-fn is_document(alloc: Global, buffers: &mut Buffers, text: &str) -> Result<bool, AllocError>
-    ensures { IfOk result (λ b. IsTrue b → (d : Data) × (read text.now ≡ Some d)) }
-{
-    let exists = exists_in_text_with(alloc, &mut buffers.old, text, Pointer::root());
-    Ok(if_json(exists)?.unwrap_or(false))
 }

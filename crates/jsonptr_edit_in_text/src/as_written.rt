@@ -25,16 +25,20 @@ pub fn as_written(alloc: Global, printed: ValueText, written: &str) -> Result<Va
     }
 }
 
-/// Does what [`as_written`] does, for a text that may have escapes. Its buffers are large locals, which
-/// each call clears.
+/// Does what [`as_written`] does, for a text that may have escapes. If the flat text has them already, no text
+/// is read. Its buffers are large locals, which each call clears.
 #[inline(never)]
 fn with_escapes(alloc: Global, printed: ValueText, written: &str) -> Result<ValueText, AllocError>
     ensures { IfOk result (λ t. lexed (string_bytes t.flat) ≡ lexed (string_bytes printed.flat)) }
 {
     let flat = with_strings(alloc, printed.flat.as_str(), written)?;
+    let lines = with_strings(alloc, printed.lines.as_str(), written)?;
+    if flat.as_str() == printed.flat.as_str() {
+        let ValueText { flat: same, .. } = printed;
+        return Ok(ValueText { flat: same, lines });
+    }
     let mut buffers = Buffers::new(alloc);
     if is_value_of(&mut buffers, flat.as_str(), printed.flat.as_str())? {
-        let lines = with_strings(alloc, printed.lines.as_str(), written)?;
         Ok(ValueText { flat, lines })
     } else {
         Ok(printed)

@@ -21,7 +21,7 @@ use crate::raw_operation::RawOperation;
 use crate::raw_value::RawValue;
 use jsonptr::{Pointer, assign};
 use jsonptr_json_edits::buffers::Buffers;
-use jsonptr_patch::{Operation, PatchError};
+use jsonptr_patch::{FailedOperation, Operation};
 use jsonptr_value::ReadError;
 use serde_json::Value;
 use std::alloc::Global;
@@ -152,7 +152,7 @@ pub fn apply_in_place(
     buffers: &mut Buffers,
     text: &str,
     operations: Vec<Operation>,
-) -> Result<String, InPlaceError<EditError<PatchError>>>
+) -> Result<String, InPlaceError<EditError<FailedOperation>>>
     ensures applied { IfOk result
         (λ s. PatchesInText text.now operations.items (string_bytes s)) }
     ensures bytes { IfOk result (λ s. PatchBytes text.now operations.items (string_bytes s)) }
@@ -188,7 +188,7 @@ pub fn apply_raw_in_place(
     buffers: &mut Buffers,
     text: &str,
     operations: Vec<RawOperation>,
-) -> Result<String, InPlaceError<EditError<PatchError>>>
+) -> Result<String, InPlaceError<EditError<FailedOperation>>>
     ensures applied { IfOk result
         (λ s. PatchesInText text.now (operations_in operations.items) (string_bytes s)) }
     ensures bytes { IfOk result (λ s. RawPatchBytes text.now operations.items (string_bytes s)) }

@@ -15,7 +15,7 @@ use crate::as_written::as_written;
 use crate::raw_value::RawValue;
 use crate::wrap::expanded;
 use jsonptr::Pointer;
-use jsonptr_in_text::{Format, Scratch, format_text};
+use jsonptr_in_text::{Format, Scratch, format_both, format_text, is_document};
 use jsonptr_json_edits::value_text::{ValueText, text_of_value};
 use jsonptr_value::{MAX_DEPTH, ReadError, nests_within};
 use serde_json::Value;
@@ -25,7 +25,7 @@ impl RawValue {
     /// Reads a JSON text.
     ///
     /// Its tokens stay as they are written, with the escapes of its strings. Only the white space
-    /// between them goes.
+    /// between them goes. Reads the text twice.
     ///
     /// # Errors
     ///
@@ -46,9 +46,17 @@ impl RawValue {
         ensures refused { IfErr result (IsReadError text.now) }
     {
         let mut scratch = Scratch::new(alloc);
-        let flat = format_text(alloc, &mut scratch, text, Format::Compact)?;
-        let lines = format_text(alloc, &mut scratch, text, Format::Pretty)?;
-        let formatted = ValueText { flat, lines };
+        let is_json = is_document(&mut scratch, text)?;
+        if !is_json {
+            return Err(ReadError::NotJson);
+        }
+        let Some(both) = format_both(alloc, &mut scratch, text)? else {
+            return Err(ReadError::NotJson);
+        };
+        let formatted = ValueText {
+            flat: both.compact,
+            lines: both.pretty,
+        };
         let own = as_written(alloc, formatted, text)?;
         Ok(RawValue { printed: own })
     }

@@ -1,21 +1,21 @@
 //! The texts of the values of a patch.
 ghost use Rattle.std.specs.Prelude.{◌≡◌, ◌∷◌, ◌++◌, [], Some, None, false, All, IfOk, IfSome, IsTrue, string_bytes};
+ghost use Rattle.json.specs.Lex.{tokens as lexed};
 ghost use Rattle.serde_json.specs.View.{view};
 ghost use Rattle.jsonptr_json_edits.specs.Alike.{HoldsTokens};
 ghost use Rattle.jsonptr_edit_in_text.specs.Carrying.{value_of_raw};
 ghost use Rattle.jsonptr_edit_in_text.specs.Fitting.{HasFittingText, brings_value};
 ghost use Rattle.jsonptr_edit_in_text.specs.RawPatching.{operations_in, IsGivenIn};
-ghost use Rattle.jsonptr_edit_in_text.specs.declared.raw_value.RawValue.{RawValue};
 
+use crate::own_text::is_read_as;
 use crate::raw_operation::RawOperation;
 use crate::raw_value::RawValue;
+use crate::spans::value_spans;
+use jsonptr_in_text::Scratch;
 use jsonptr_json_edits::buffers::Buffers;
 use jsonptr_json_edits::cut::cut_at;
-use jsonptr_json_edits::layout::slice;
-use jsonptr_json_edits::locate::{Extent, Span, children_of, place_of};
+use jsonptr_json_edits::locate::Span;
 use jsonptr_json_edits::spacing::is_trimmed;
-use jsonptr_json_search::decide::is_text;
-use jsonptr_json_search::selector::Selector;
 use jsonptr_patch::Operation;
 use jsonptr_value::if_json;
 use serde_json::Value;
@@ -28,7 +28,8 @@ use std::alloc::{AllocError, Global};
 /// they are written. It comes from the last member `value` of the object of the operation, and is read
 /// as exactly the value of the operation. No patch document is known with a text that is not found.
 ///
-/// Takes time linear in the text.
+/// Takes time linear in the text. Reads the text once, and then each value, which is also printed. A
+/// value whose text is not the one that is printed, as `1.10`, is read and printed once more.
 ///
 /// # Errors
 ///
@@ -55,13 +56,12 @@ pub fn raw_operations(
     ensures texts { IfOk result (λ found. IfSome found
         (λ raw_operations. All (IsGivenIn text.now) raw_operations.items)) }
 {
-    let elements = elements_of(alloc, buffers, text)?;
-    let selectors = value_selectors(alloc)?;
+    let spans = value_spans(alloc, &mut buffers.old, text)?;
     let mut raw_operations = Vec::new(alloc);
     let mut index = 0usize;
     for operation in operations {
-        let raw = own_text(alloc, buffers, text, child_at(&elements, index), &selectors)?;
-        let Some(operation) = with_own(alloc, operation, raw)? else {
+        let span = span_at(&spans, index);
+        let Some(operation) = with_own(alloc, &mut buffers.value, text, span, operation)? else {
             return Ok(None);
         };
         append(&mut raw_operations, operation)?;
@@ -70,21 +70,23 @@ pub fn raw_operations(
     Ok(Some(raw_operations))
 }
 
-/// Returns the operation with the text that was found for it, or `None` if it needs one and there is
-/// none, or one of another value.
+/// Returns the operation with the text at the span, or `None` if it needs one and that is not one of its
+/// value.
 fn with_own(
     alloc: Global,
+    scratch: &mut Scratch,
+    text: &str,
+    span: Span,
     operation: Operation,
-    raw: Option<RawValue>,
 ) -> Result<Option<RawOperation>, AllocError>
     ensures operation { IfOk result (λ o. IfSome o (λ made. made.operation ≡ operation)) }
-    ensures text { IfOk result (λ o. IfSome o (λ made. IsTrue (brings_value operation)
-        → (given : RawValue) × (raw ≡ Some given) × (made.raw ≡ Some given))) }
+    ensures given { IfOk result (λ o. IfSome o (IsGivenIn text.now)) }
 {
-    match raw {
-        Some(raw) => RawOperation::with_text(alloc, operation, raw),
-        None => Ok(bare(operation)),
-    }
+    let Some(own) = own_text(alloc, scratch, text, span, &operation)? else {
+        return Ok(bare(operation));
+    };
+    let raw = Some(own);
+    Ok(Some(RawOperation { operation, raw }))
 }
 
 /// Returns the operation, or `None` if it puts a value of its own into a document.
@@ -113,62 +115,63 @@ fn brings(operation: &Operation) -> bool
     }
 }
 
-/// Returns where the elements of the array are that the text is, or none if it is not an array.
-fn elements_of(
-    alloc: Global,
-    buffers: &mut Buffers,
-    text: &str,
-) -> Result<Vec<Extent>, AllocError> {
-    let all = Span {
-        from: 0,
-        to: text.len(),
-    };
-    match children_of(alloc, buffers, text, all)? {
-        Some(elements) => Ok(elements),
-        None => Ok(Vec::new(alloc)),
-    }
-}
-
-/// Returns the selector of a member `value`.
-fn value_selectors(alloc: Global) -> Result<Vec<Selector>, AllocError> {
-    let key = String::from_str(alloc, "value")?;
-    Ok(vec![in alloc; Selector { key, index: None }]?)
-}
-
-/// Returns where the element at the index is, or nothing at the start of the text.
-fn child_at(elements: &[Extent], index: usize) -> Span {
-    match elements.get(index) {
-        Some(element) => element.child,
+/// Returns the span at the index, or an empty one.
+fn span_at(spans: &[Span], index: usize) -> Span {
+    match spans.get(index) {
+        Some(span) => *span,
         None => Span { from: 0, to: 0 },
     }
 }
 
-/// Returns the text of the value to which the selectors lead in the object at the span.
+/// Returns the text at the span, if it is one for the operation.
 fn own_text(
     alloc: Global,
-    buffers: &mut Buffers,
+    scratch: &mut Scratch,
     text: &str,
-    object: Span,
-    selectors: &[Selector],
+    span: Span,
+    operation: &Operation,
 ) -> Result<Option<RawValue>, AllocError>
-    ensures { IfOk result (λ found. IfSome found (λ raw. HoldsTokens (string_bytes raw.printed.flat) text.now)) }
+    ensures fits { IfOk result (HasFittingText operation.now) }
+    ensures found { IfOk result (λ found. IfSome found
+        (λ raw. HoldsTokens (string_bytes raw.printed.flat) text.now)) }
 {
-    let text_there = slice(text, object.from, object.to);
-    let Some(place) = place_of(alloc, buffers, text_there, selectors)? else {
+    let Some(cut) = cut_at(text, span.from, span.to) else {
         return Ok(None);
     };
-    if place.depth == 0 {
+    if cut.middle.is_empty() || !is_trimmed(cut.middle) {
         return Ok(None);
     }
-    let from = object.from.saturating_add(place.value.from);
-    let to = object.from.saturating_add(place.value.to);
-    let Some(cut) = cut_at(text, from, to) else {
-        return Ok(None);
-    };
-    if !is_trimmed(cut.middle) {
-        return Ok(None);
+    text_for(alloc, scratch, cut.middle, operation)
+}
+
+/// Returns the text, if it is read as the value of the operation. If the operation has no value, each JSON
+/// text is one for it.
+fn text_for(
+    alloc: Global,
+    scratch: &mut Scratch,
+    text: &str,
+    operation: &Operation,
+) -> Result<Option<RawValue>, AllocError>
+    ensures fits { IfOk result (HasFittingText operation.now) }
+    ensures same { IfOk result (λ found. IfSome found
+        (λ raw. lexed (string_bytes raw.printed.flat) ≡ lexed text.now)) }
+{
+    match operation {
+        Operation::Add { path: _, value } => RawValue::of_value_in(alloc, scratch, text, value),
+        Operation::Remove { path: _ } => raw_text(alloc, text),
+        Operation::Replace { path: _, value } => RawValue::of_value_in(alloc, scratch, text, value),
+        Operation::Move { from: _, path: _ } => raw_text(alloc, text),
+        Operation::Copy { from: _, path: _ } => raw_text(alloc, text),
+        Operation::Test { path: _, value } => RawValue::of_value_in(alloc, scratch, text, value),
     }
-    if_json(RawValue::parse(alloc, cut.middle))
+}
+
+/// Returns the text, if it is JSON.
+fn raw_text(alloc: Global, text: &str) -> Result<Option<RawValue>, AllocError>
+    ensures { IfOk result (λ found. IfSome found
+        (λ raw. lexed (string_bytes raw.printed.flat) ≡ lexed text.now)) }
+{
+    if_json(RawValue::parse(alloc, text))
 }
 
 /// Returns the operations without texts, so that their values are printed.
@@ -181,10 +184,10 @@ fn own_text(
 ///
 /// ```rust
 /// let remove = Operation::Remove { path: PointerBuf::from_text(alloc, "/a")? };
-/// let operations = printed_operations(alloc, vec![in alloc; remove]?)?;
+/// let operations = without_texts(alloc, vec![in alloc; remove]?)?;
 /// assert!(rt; operations.len() == 1 && operations[0].raw.is_none());
 /// ```
-pub fn printed_operations(
+pub fn without_texts(
     alloc: Global,
     operations: Vec<Operation>,
 ) -> Result<Vec<RawOperation>, AllocError>
@@ -284,16 +287,9 @@ fn fits(alloc: Global, operation: &Operation, raw: &RawValue) -> Result<bool, Al
     }
 }
 
-/// Returns whether the text is read as the value: both are printed, and compared.
+/// Returns whether the text is read as the value.
 fn is_text_of(alloc: Global, raw: &RawValue, value: &Value) -> Result<bool, AllocError>
     ensures { IfOk result (λ b. IsTrue b → value_of_raw raw.now ≡ view value.now) }
 {
-    let again = raw.to_value(alloc)?;
-    let Some(one) = RawValue::from_value(alloc, value)? else {
-        return Ok(false);
-    };
-    let Some(other) = RawValue::from_value(alloc, &again)? else {
-        return Ok(false);
-    };
-    Ok(is_text(one.printed.flat.as_str(), other.printed.flat.as_str()))
+    is_read_as(alloc, raw.printed.flat.as_str(), value)
 }

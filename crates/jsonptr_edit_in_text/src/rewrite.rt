@@ -11,7 +11,7 @@ ghost use Rattle.jsonptr_edit_in_text.specs.PatchInText.{PatchesInText, IsPatchE
 
 use crate::edited::EditError;
 use jsonptr::{Assign, Delete, Fault, Pointer, assign};
-use jsonptr_patch::{Comparison, Operation, PatchError, apply_comparing};
+use jsonptr_patch::{Comparison, FailedOperation, Operation, apply_naming_pointer};
 use jsonptr_value::{MAX_DEPTH, ReadError, discard, nests_within};
 use serde_json::Value;
 use std::alloc::Global;
@@ -49,15 +49,15 @@ pub fn apply_and_print(
     alloc: Global,
     text: &str,
     operations: Vec<Operation>,
-) -> Result<String, EditError<PatchError>>
+) -> Result<String, EditError<FailedOperation>>
     ensures applied { IfOk result
         (λ s. PatchesInText text.now operations.items (string_bytes s)) }
     ensures refused { IfErr result (IsPatchError text.now operations.items) }
 {
     let mut document = jsonptr_value::read(alloc, text)?;
-    match apply_comparing(alloc, &mut document, operations, Comparison::Numeric) {
+    match apply_naming_pointer(alloc, &mut document, operations, Comparison::Numeric) {
         Ok(()) => print_document(alloc, document),
-        Err(Fault::Refused(error)) => Err(EditError::Refused(error)),
+        Err(Fault::Refused(failed)) => Err(EditError::Refused(failed)),
         Err(Fault::Memory(error)) => Err(EditError::Memory(error)),
     }
 }

@@ -5,7 +5,7 @@ use Rattle.std.specs.declared.alloc.Global.{Global}
 use Rattle.jsonptr.specs.Text.{Text}
 use Rattle.jsonptr_comments.specs.Comments.{IsWithoutComments}
 use Rattle.jsonptr_patch.specs.declared.operation.Operation.{Operation}
-use Rattle.jsonptr_patch.specs.declared.operation.PatchError.{PatchError}
+use Rattle.jsonptr_patch.specs.declared.failed_operation.FailedOperation.{FailedOperation}
 use Rattle.jsonptr_edit_in_text.specs.PatchInText.{PatchesInText, PatchBytes}
 use Rattle.jsonptr_edit_in_text.specs.RawPatching.{operations_in, RawPatchBytes}
 use Rattle.jsonptr_edit_in_text.specs.declared.raw_operation.RawOperation.{RawOperation}
@@ -42,7 +42,7 @@ edited_as P text old new (Ok (Some s)) w p h = (old, new, w, h, p)
 
 -- the texts of values left aside
 pub plain_edits : ((old new : Text) (rs : List RawOperation) → RawPatchBytes old rs new → PatchBytes old (operations_in rs) new)
-    → (r : Result (String Global) (WithCommentsError PatchError)) (text : Text) (rs : List RawOperation) (os : List Operation) → operations_in rs ≡ os
+    → (r : Result (String Global) (WithCommentsError FailedOperation)) (text : Text) (rs : List RawOperation) (os : List Operation) → operations_in rs ≡ os
     → IfOk r (λ s. EditsAs (λ old new. RawPatchBytes old rs new) text (string_bytes s))
     → IfOk r (λ s. EditsAs (λ old new. PatchBytes old os new) text (string_bytes s))
 plain_edits law (Err e) text rs os same h = h

@@ -12,10 +12,10 @@ use crate::operate::{bare, operate};
 use crate::same::is_laid_out;
 use jsonptr_edit_in_text::laws::raw_patch_law;
 use jsonptr_edit_in_text::{
-    RawOperation, apply_raw_in_place, printed_operations, try_apply_raw_in_place,
+    RawOperation, apply_raw_in_place, try_apply_raw_in_place, without_texts,
 };
 use jsonptr_json_edits::buffers::Buffers;
-use jsonptr_patch::{Operation, PatchError};
+use jsonptr_patch::{FailedOperation, Operation};
 use std::alloc::{AllocError, Global};
 
 /// Applies the operations of a patch in order to the document that the text with comments contains, all
@@ -35,7 +35,8 @@ use std::alloc::{AllocError, Global};
 ///
 /// - [`WithCommentsError::Comment`] if a block comment is not closed.
 /// - [`WithCommentsError::NotJson`] if `serde_json` does not read the text without comments.
-/// - [`WithCommentsError::Refused`] with the error of the patch.
+/// - [`WithCommentsError::Refused`] with the error of the patch, and which pointer of its operation is at
+///   fault.
 /// - [`WithCommentsError::TooDeep`] if the new document nests deeper than 127.
 /// - [`WithCommentsError::NotInPlace`] if the patch is possible, but one of its operations is not made in
 ///   the text with comments.
@@ -58,7 +59,7 @@ pub fn apply_with_comments(
     buffers: &mut Buffers,
     text: &str,
     operations: Vec<Operation>,
-) -> Result<String, WithCommentsError<PatchError>>
+) -> Result<String, WithCommentsError<FailedOperation>>
     ensures applied { IfOk result (λ s. Becomes
         (λ old new. PatchesInText old operations.items new) text.now (string_bytes s)) }
     ensures bytes { IfOk result (λ s. EditsAs
@@ -69,7 +70,7 @@ pub fn apply_with_comments(
         (λ old e. IsPatchError old operations.items e) text.now) }
 {
     raw_patch_law();
-    let raw_operations = printed_operations(alloc, operations)?;
+    let raw_operations = without_texts(alloc, operations)?;
     apply_raw_with_comments(alloc, buffers, text, raw_operations)
 }
 
@@ -99,7 +100,7 @@ pub fn apply_raw_with_comments(
     buffers: &mut Buffers,
     text: &str,
     operations: Vec<RawOperation>,
-) -> Result<String, WithCommentsError<PatchError>>
+) -> Result<String, WithCommentsError<FailedOperation>>
     ensures applied { IfOk result (λ s. Becomes
         (λ old new. PatchesInText old (operations_in operations.items) new) text.now (string_bytes s)) }
     ensures bytes { IfOk result (λ s. EditsAs

@@ -7,7 +7,7 @@ use jsonptr_edit_in_text::{
     Buffers, EditError, Edited, apply_in_text, apply_in_text_with, assign_in_text,
     assign_in_text_with, delete_in_text, delete_in_text_with,
 };
-use jsonptr_patch::{Comparison, apply_comparing};
+use jsonptr_patch::{Comparison, FailedOperation, PatchError, apply_comparing};
 use jsonptr_value::ReadError;
 use serde_json::Value;
 use std::fmt::{Debug, Display};
@@ -167,8 +167,22 @@ pub fn edit(out: &mut Out<'_>, buffers: &mut Buffers, request: Request<'_>) -> O
         }
         _ => {
             let operations = operations(alloc, argument)?;
-            edited(out, apply_in_text_with(alloc, buffers, text, operations))
+            let made = apply_in_text_with(alloc, buffers, text, operations);
+            edited(out, without_pointer(made))
         }
+    }
+}
+
+/// Returns the result of a patch without the pointer at fault, which [`apply_comparing`] does not name.
+fn without_pointer(
+    edited: Result<Edited, EditError<FailedOperation>>,
+) -> Result<Edited, EditError<PatchError>> {
+    match edited {
+        Ok(edited) => Ok(edited),
+        Err(EditError::NotJson) => Err(EditError::NotJson),
+        Err(EditError::TooDeep) => Err(EditError::TooDeep),
+        Err(EditError::Refused(failed)) => Err(EditError::Refused(failed.error)),
+        Err(EditError::Memory(error)) => Err(EditError::Memory(error)),
     }
 }
 

@@ -1,9 +1,10 @@
 -- Settings in a JSON text with comments.
-use Rattle.std.specs.Prelude.{ℕ, List, ⊤}
+use Rattle.std.specs.Prelude.{◌≡◌, ℕ, List, ⊤}
 use Rattle.serde_json.specs.Data.{Data}
 use Rattle.jsonptr.specs.Text.{Text}
 use Rattle.jsonptr_comments.specs.Comments.{IsWithoutComments, IsUnterminated}
 use Rattle.jsonptr_in_text.specs.InText.{FindsInText, IsInTextError}
+use Rattle.jsonptr_patch.specs.declared.failed_operation.FailedOperation.{FailedOperation}
 use Rattle.jsonptr_patch.specs.declared.operation.Operation.{Operation}
 use Rattle.jsonptr_patch.specs.declared.operation.PatchError.TheVariants.{TestFailed}
 use Rattle.jsonptr_edit_in_text.specs.PatchInText.{IsPatchError}
@@ -23,4 +24,5 @@ IsSettingError text tokens (Memory e) = ⊤
 
 -- `FailsTest text os`: one of the operations `os` is a test that fails, in the document of the text without its comments
 abbrev pub FailsTest : Text → List Operation → Type 0
-FailsTest text os = (json : Text) × (k : ℕ) × IsWithoutComments text json × IsPatchError json os (Refused (TestFailed k))
+FailsTest text os = (json : Text) × (k : ℕ) × (f : FailedOperation) × IsWithoutComments text json
+    × IsPatchError json os (Refused f) × (f.error ≡ TestFailed k)

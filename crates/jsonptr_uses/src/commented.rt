@@ -11,7 +11,7 @@ use jsonptr::{Fault, Pointer};
 use jsonptr_comments::{CommentError, without_comments};
 use jsonptr_edit_with_comments::{Buffers, WithCommentsError, apply_with_comments};
 use jsonptr_in_text::{InTextError, resolve_in_text};
-use jsonptr_patch::{Operation, PatchError};
+use jsonptr_patch::{FailedOperation, Operation, PatchError};
 use serde_json::Value;
 use std::alloc::{AllocError, Global};
 
@@ -56,7 +56,7 @@ pub fn upgraded(
     alloc: Global,
     text: &str,
     upgrade: Vec<Operation>,
-) -> Result<Option<String>, WithCommentsError<PatchError>>
+) -> Result<Option<String>, WithCommentsError<FailedOperation>>
     ensures upgraded { IfOk result (λ o. MatchOption o (FailsTest text.now upgrade.items)
         (λ s. Becomes (λ old new. PatchesInText old upgrade.items new) text.now (string_bytes s)
         × PatchEdits text.now upgrade.items (string_bytes s))) }
@@ -67,7 +67,14 @@ pub fn upgraded(
     let mut buffers = Buffers::new(alloc);
     match apply_with_comments(alloc, &mut buffers, text, upgrade) {
         Ok(new) => Ok(Some(new)),
-        Err(WithCommentsError::Refused(PatchError::TestFailed { .. })) => Ok(None),
+        Err(
+            WithCommentsError::Refused(
+                FailedOperation {
+                    error: PatchError::TestFailed { .. },
+                    ..
+                },
+            ),
+        ) => Ok(None),
         Err(error) => Err(error),
     }
 }

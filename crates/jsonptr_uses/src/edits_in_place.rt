@@ -12,8 +12,8 @@ ghost use Rattle.jsonptr_edit_in_text.specs.EditInText.{AssignsInText, DeletesIn
 ghost use Rattle.jsonptr_edit_in_text.specs.PatchInText.{PatchesInText, MovesBytes, IsPatchError};
 ghost use Rattle.jsonptr_edit_in_text.specs.InPlace.{IsInPlaceError, StaysOneLine};
 ghost use Rattle.jsonptr_edit_in_text.specs.declared.edited.EditError.TheVariants.{Refused};
+ghost use Rattle.jsonptr_patch.specs.declared.failed_operation.FailedOperation.{FailedOperation as a_failed_operation};
 ghost use Rattle.jsonptr_patch.specs.declared.operation.Operation.TheVariants.{Move};
-ghost use Rattle.jsonptr_patch.specs.declared.operation.PatchError.{PatchError as a_patch_error};
 
 use jsonptr::{Pointer, PointerBuf, assign};
 use jsonptr_edit_in_text::{
@@ -21,7 +21,7 @@ use jsonptr_edit_in_text::{
     delete_in_place, delete_in_text,
 };
 use jsonptr_in_text::exists_in_text;
-use jsonptr_patch::{Operation, PatchError};
+use jsonptr_patch::{FailedOperation, Operation};
 use jsonptr_value::ReadError;
 use serde_json::Value;
 use std::alloc::{AllocError, Global};
@@ -98,7 +98,7 @@ pub fn moved(
     text: &str,
     from: PointerBuf,
     path: PointerBuf,
-) -> Result<String, InPlaceError<EditError<PatchError>>>
+) -> Result<String, InPlaceError<EditError<FailedOperation>>>
     ensures moved { IfOk result (λ s. PatchesInText text.now (Move from path ∷ []) (string_bytes s)) }
     ensures bytes { IfOk result (λ s. MovesBytes text.now from path (string_bytes s)) }
     ensures refused { IfErr result (IsInPlaceError
@@ -133,16 +133,16 @@ pub fn migrated(
     alloc: Global,
     text: &str,
     operations: Vec<Operation>,
-) -> Result<Option<String>, EditError<PatchError>>
+) -> Result<Option<String>, EditError<FailedOperation>>
     ensures migrated { IfOk result (λ o. MatchOption o
-        ((e : a_patch_error) × IsPatchError text.now operations.items (Refused e))
+        ((f : a_failed_operation) × IsPatchError text.now operations.items (Refused f))
         (λ s. PatchesInText text.now operations.items (string_bytes s))) }
     ensures refused { IfErr result (IsPatchError text.now operations.items) }
-    ensures never_refused { IfErr result (λ e. (f : a_patch_error) → e ≡ Refused f → ⊥) }
+    ensures never_refused { IfErr result (λ e. (f : a_failed_operation) → e ≡ Refused f → ⊥) }
 {
     match apply_in_text(alloc, text, operations) {
         Ok(edited) => Ok(Some(edited.into_string())),
-        Err(EditError::Refused(_error)) => Ok(None),
+        Err(EditError::Refused(_failed)) => Ok(None),
         Err(EditError::NotJson) => Err(EditError::NotJson),
         Err(EditError::TooDeep) => Err(EditError::TooDeep),
         Err(EditError::Memory(error)) => Err(EditError::Memory(error)),

@@ -4,7 +4,7 @@ use Rattle.std.specs.Vec.Iter.{into_iter_items}
 use Rattle.jsonptr_patch.specs.declared.operation.Operation.{Operation}
 use Rattle.jsonptr_edit_in_text.specs.RawPatching.{operations_in, IsGivenIn}
 use Rattle.jsonptr_edit_in_text.specs.declared.raw_operation.RawOperation.{RawOperation}
-use Rattle.jsonptr_edit_in_text.proofs.RawListLemmas.{Given, operations_push, given_in}
+use Rattle.jsonptr_edit_in_text.proofs.RawListLemmas.{operations_push}
 use Rattle.jsonptr_edit_in_text.proofs.raw_patch.raw_operations.Goals as goal
 
 pub loop-operation-preserved : goal.loop-operation-preserved
@@ -14,12 +14,11 @@ loop-operation-preserved c =
     let text = c.args.text.now in
     let old = c.loop-operation.raw_operations.items in
     let o = c.in-Some.operation in
-    let raw = c.in_ok-raw.raw in
     let r = c.in-Some-2.operation in
     let rest = into_iter_items c.next.new.self in
     let is : r.operation ≡ o = subst (λ (x : Option RawOperation). IfSome x (λ y. y.operation ≡ o)) c.in-Some-2.is c.in_ok-operation.ensures.operation in
-    let given = subst (λ (x : Option RawOperation). IfSome x (Given o raw)) c.in-Some-2.is c.in_ok-operation.ensures.text in
+    let given = subst (λ (x : Option RawOperation). IfSome x (IsGivenIn text)) c.in-Some-2.is c.in_ok-operation.ensures.given in
     let new : c.append.new.operations.items ≡ old ++ r ∷ [] = c.in_ok-append.ensures in (
       ap (λ (l : List RawOperation). operations_in l ++ rest) new ∙ ap (λ (l : List Operation). l ++ rest) (operations_push old r) ∙ append_assoc (operations_in old) (r.operation ∷ []) rest ∙ ap (λ (x : Operation). operations_in old ++ x ∷ rest) is ∙ ap (λ (l : List Operation). operations_in old ++ l) (sym steps.0) ∙ held.0,
-      subst (λ (l : List RawOperation). All (IsGivenIn text) l) (sym new) (All-push (IsGivenIn text) old r held.1 (given_in text r o raw is given c.in_ok-raw.ensures)),
+      subst (λ (l : List RawOperation). All (IsGivenIn text) l) (sym new) (All-push (IsGivenIn text) old r held.1 given),
     )

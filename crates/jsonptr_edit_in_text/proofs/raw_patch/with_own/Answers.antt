@@ -1,8 +1,8 @@
-use Rattle.jsonptr_edit_in_text.proofs.RawListLemmas.{given_some, given_none}
+use Rattle.std.proofs.Common.{Option, IfSome, string_bytes, refl, subst}
+use Rattle.jsonptr_json_edits.specs.Alike.{HoldsTokens}
+use Rattle.jsonptr_edit_in_text.specs.declared.raw_value.RawValue.{RawValue}
 use Rattle.jsonptr_edit_in_text.proofs.raw_patch.with_own.Goals as goal
 
-pub returns-in-Some-clause-text : goal.returns-in-Some-clause-text
-returns-in-Some-clause-text c = given_some c.with_text.result c.args.operation c.args.raw c.in-Some.raw c.in-Some.is c.with_text.ensures.text
-
-pub returns-in-None-clause-text : goal.returns-in-None-clause-text
-returns-in-None-clause-text c = given_none c.bare.result c.args.operation c.args.raw c.bare.ensures.bare
+pub returns-clause-given : goal.returns-clause-given
+returns-clause-given c = λ _.
+    (c.in-Some.own, refl, subst (λ (o : Option RawValue). IfSome o (λ raw. HoldsTokens (string_bytes raw.printed.flat) c.args.text.now)) c.in-Some.is c.in_ok-own.ensures.found)

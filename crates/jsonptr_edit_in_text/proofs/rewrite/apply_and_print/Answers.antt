@@ -4,12 +4,12 @@ use Rattle.jsonptr_edit_in_text.proofs.rewrite.apply_and_print.Goals as goal
 
 pub returns-in-Ok-clause-applied : goal.returns-in-Ok-clause-applied
 returns-in-Ok-clause-applied c =
-    patched_then c.args.text.now c.args.operations.items (view c.in_ok-document.document) (view c.apply_comparing.new.document) c.print_document.result
+    patched_then c.args.text.now c.args.operations.items (view c.in_ok-document.document) (view c.apply_naming_pointer.new.document) c.print_document.result
     c.in_ok-document.ensures.value c.in-Ok.ensures.applied c.print_document.ensures.printed
 
 pub returns-in-Ok-clause-refused : goal.returns-in-Ok-clause-refused
 returns-in-Ok-clause-refused c =
-    patch_fails_then c.args.text.now c.args.operations.items (view c.in_ok-document.document) (view c.apply_comparing.new.document) c.print_document.result
+    patch_fails_then c.args.text.now c.args.operations.items (view c.in_ok-document.document) (view c.apply_naming_pointer.new.document) c.print_document.result
     c.in_ok-document.ensures.value c.in-Ok.ensures.applied
     (λ s. c.in-Ok.ensures.sorted s c.in_ok-document.ensures.sorted)
     c.print_document.ensures.refused
