@@ -7,13 +7,13 @@ use Rattle.serde_json.specs.Read.{read}
 use Rattle.serde_json.specs.View.{view}
 use Rattle.serde_json.specs.declared.value.Value.{Value}
 use Rattle.jsonptr.specs.Documents.{IsDocument}
-use Rattle.jsonptr.specs.Json.{nodes, FindsValue}
+use Rattle.jsonptr.specs.Json.{nodes, content, FindsValue}
 use Rattle.jsonptr.specs.Node.{NodeMap}
 use Rattle.jsonptr.specs.ParseError.{IsParseErrorOf}
 use Rattle.jsonptr.specs.Resolve.{Refuses}
 use Rattle.jsonptr.specs.Text.{Text}
 use Rattle.jsonptr.specs.Types.ParseError.{ParseError}
-use Rattle.jsonptr.proofs.Calling.{IsPointer-text, text_one, FindsValue_one, Refuses-NamesNothing}
+use Rattle.jsonptr.proofs.Calling.{IsPointer-text, map_of-IsTree, map_of-finite, text_one, FindsValue_one, Refuses-NamesNothing}
 use Rattle.jsonptr.specs.Grammar.{IsPointer}
 use Rattle.jsonptr_c_handle.specs.declared.handle.Handle.{Handle}
 use Rattle.jsonptr_c_calls.specs.Editing.{IsNotAssigned, IsNotDeleted, IsTextNotAssigned, RefusesAt}
@@ -23,11 +23,11 @@ use Rattle.jsonptr_c_calls.specs.Failures.{FailsOnHandle, IsNoPointer, IsNoToken
 use Rattle.jsonptr_in_text.specs.InText.{FindsInText}
 use Rattle.jsonptr_c_calls.specs.Locations.{IsNotLocated, LacksLocation}
 use Rattle.jsonptr_c_calls.specs.InTexts.{FindsAtPointerInText, IsNotInText, IsNotPrintedFrom, LacksValue}
-use Rattle.jsonptr_patch.specs.Patching.{PatchesBy, RefusesPatchBy}
+use Rattle.jsonptr_patch.specs.Patching.{PatchesBy, FailsBy}
+use Rattle.jsonptr_patch.specs.declared.failed_operation.FailedOperation.{FailedOperation}
 use Rattle.jsonptr_patch.specs.declared.operation.Operation.{Operation}
-use Rattle.jsonptr_patch.specs.declared.operation.PatchError.{PatchError}
 use Rattle.jsonptr_patch.specs.declared.comparison.Comparison.TheVariants.{Numeric}
-use Rattle.jsonptr_c_calls.specs.Patches.{IsNotAppliedList, IsNotPatched, IsNotPatchText}
+use Rattle.jsonptr_c_calls.specs.Patches.{FailsList, IsNotAppliedList, IsNotPatched, IsNotPatchText}
 use Rattle.jsonptr_c_calls.specs.Pointers.{ParsesTo}
 use Rattle.jsonptr_c_calls.specs.ErrorNumbers.{status_number}
 use Rattle.jsonptr_c_calls.specs.Values.{FindsAtPointer}
@@ -37,7 +37,10 @@ use Rattle.jsonptr_c_calls.specs.declared.call_error.CallError.{CallError}
 use Rattle.jsonptr_c_calls.specs.declared.call_error.CallError.TheVariants.{NoRoom, NoDocument, NotUtf8, NotJson, NotExact, NotPointer, NoToken, Resolve, NotLocated, OtherType, Assign, NotPatch, PatchFailed, TooDeep, InverseTooDeep}
 use Rattle.jsonptr_in_text.specs.declared.format.Format.{Format}
 use Rattle.jsonptr_c_calls.specs.Depths.{max_levels, StaysShallow}
-use Rattle.jsonptr_c_calls.proofs.SourceLemmas.{is_document}
+
+-- a JSON value is a document
+pub is_document : (d : Data) → IsDocument (nodes d)
+is_document d = (map_of-IsTree (content d), map_of-finite (content d))
 
 same : (e f x y : CallError) → e ≡ x → f ≡ y → status_number x ≡ status_number y → SameStatus e f
 same e f x y p q s = inr (inr (ap status_number p ∙ s ∙ sym (ap status_number q)))
@@ -102,6 +105,10 @@ on_document d P e f one (inr h) (inr k) =
     let content : Some h.0 ≡ Some k.0 = sym h.1.1 ∙ k.1.1 in
     let value : h.0 ≡ k.0 = cc in
     one k.0 (subst (λ (v : Value). P v e) value h.2) k.2
+
+-- operations fail with one error
+pub failed_one : ((n : NodeMap) (os : List Operation) (f g : FailedOperation) → IsDocument n → FailsBy Numeric n os f → FailsBy Numeric n os g → f ≡ g) → (d : Data) (os : List Operation) (e f : CallError) → FailsList (nodes d) os e → FailsList (nodes d) os f → e ≡ f
+failed_one one d os e f h k = h.2 ∙ ap PatchFailed (one (nodes d) os h.0 k.0 (is_document d) h.1 k.1) ∙ sym k.2
 
 module _ (not_both : (s : Text) (e : ParseError) → IsPointer s → IsParseErrorOf s e → ⊥) where
   -- a pointer has no error
@@ -241,26 +248,26 @@ module _ (not_both : (s : Text) (e : ParseError) → IsPointer s → IsParseErro
   not_patch t e f (inr h) (inl k) = inr (inl (no_read t h.0 f k h.2 h.3))
   not_patch t e f (inr h) (inr k) = same e f (NotPatch h.1) (NotPatch k.1) h.5 k.5 refl
 
-  pub not_applied : (d : Data) (t : List ℕ) (os : List Operation) (e f : CallError) → IsNotAppliedList d t os e → IsNotAppliedList d t os f → SameStatus e f
-  not_applied d t os e f (inr (inl h)) k = inl h
-  not_applied d t os e f (inl h) (inr (inl k)) = inr (inl k)
-  not_applied d t os e f (inr (inr h)) (inr (inl k)) = inr (inl k)
-  not_applied d t os e f (inl h) (inl k) = same e f TooDeep TooDeep h.1 k.1 refl
-  not_applied d t os e f (inl h) (inr (inr k)) = absurd (h.0 k.0)
-  not_applied d t os e f (inr (inr h)) (inl k) = absurd (k.0 h.0)
-  not_applied d t os e f (inr (inr h)) (inr (inr k)) = same e f (PatchFailed h.1.0 h.1.1) (PatchFailed k.1.0 k.1.1) h.1.4 k.1.4 refl
+  pub not_applied : (d : Data) (os : List Operation) (e f : CallError) → IsNotAppliedList d os e → IsNotAppliedList d os f → SameStatus e f
+  not_applied d os e f (inr (inl h)) k = inl h
+  not_applied d os e f (inl h) (inr (inl k)) = inr (inl k)
+  not_applied d os e f (inr (inr h)) (inr (inl k)) = inr (inl k)
+  not_applied d os e f (inl h) (inl k) = same e f TooDeep TooDeep h.1 k.1 refl
+  not_applied d os e f (inl h) (inr (inr k)) = absurd (h.0 k.0)
+  not_applied d os e f (inr (inr h)) (inl k) = absurd (k.0 h.0)
+  not_applied d os e f (inr (inr h)) (inr (inr k)) = same e f (PatchFailed h.1.0) (PatchFailed k.1.0) h.1.2 k.1.2 refl
 
   -- operations that are applied
-  pub applied : ((n m : NodeMap) (os : List Operation) (e : PatchError) → IsDocument n → PatchesBy Numeric n os m → RefusesPatchBy Numeric n os e → ⊥) → (d n : Data) (t : List ℕ) (os : List Operation) (e : CallError) → IsNotAppliedList d t os e → StaysShallow d os → PatchesBy Numeric (nodes d) os (nodes n) → IsOutOfMemory e
-  applied apart d n t os e (inl h) shallow made = absurd (h.0 shallow)
-  applied apart d n t os e (inr (inl h)) shallow made = h
-  applied apart d n t os e (inr (inr h)) shallow made = absurd (apart (nodes d) (nodes n) os h.1.0 (is_document d) made h.1.2)
+  pub applied : ((n m : NodeMap) (os : List Operation) (f : FailedOperation) → IsDocument n → PatchesBy Numeric n os m → FailsBy Numeric n os f → ⊥) → (d n : Data) (os : List Operation) (e : CallError) → IsNotAppliedList d os e → StaysShallow d os → PatchesBy Numeric (nodes d) os (nodes n) → IsOutOfMemory e
+  applied apart d n os e (inl h) shallow made = absurd (h.0 shallow)
+  applied apart d n os e (inr (inl h)) shallow made = h
+  applied apart d n os e (inr (inr h)) shallow made = absurd (apart (nodes d) (nodes n) os h.1.0 (is_document d) made h.1.1)
 
-  pub not_patched : ((n m : NodeMap) (os : List Operation) (e : PatchError) → IsDocument n → PatchesBy Numeric n os m → RefusesPatchBy Numeric n os e → ⊥) → (d : Data) (t : List ℕ) (os : List Operation) (e f : CallError) → IsNotPatched d t os e → IsNotPatched d t os f → SameStatus e f
-  not_patched apart d t os e f (inl h) (inl k) = not_applied d t os e f h k
-  not_patched apart d t os e f (inl h) (inr k) = inl (applied apart d k.0 t os e h k.1 k.2)
-  not_patched apart d t os e f (inr h) (inl k) = inr (inl (applied apart d h.0 t os f k h.1 h.2))
-  not_patched apart d t os e f (inr h) (inr k) = same e f InverseTooDeep InverseTooDeep h.3.4 k.3.4 refl
+  pub not_patched : ((n m : NodeMap) (os : List Operation) (f : FailedOperation) → IsDocument n → PatchesBy Numeric n os m → FailsBy Numeric n os f → ⊥) → (d : Data) (os : List Operation) (e f : CallError) → IsNotPatched d os e → IsNotPatched d os f → SameStatus e f
+  not_patched apart d os e f (inl h) (inl k) = not_applied d os e f h k
+  not_patched apart d os e f (inl h) (inr k) = inl (applied apart d k.0 os e h k.1 k.2)
+  not_patched apart d os e f (inr h) (inl k) = inr (inl (applied apart d h.0 os f k h.1 h.2))
+  not_patched apart d os e f (inr h) (inr k) = same e f InverseTooDeep InverseTooDeep h.3.4 k.3.4 refl
 
   lacks_value : (t : List ℕ) (ts : List Text) (e f : CallError) → LacksValue t ts e → LacksValue t ts f → SameStatus e f
   lacks_value t ts e f (inl h) (inl k) = same e f (NotJson h.0) (NotJson k.0) h.2 k.2 refl

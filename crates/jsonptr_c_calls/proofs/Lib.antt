@@ -7,4 +7,3 @@ mod LocationLemmas
 mod MessageLemmas
 mod BoundedMessages
 mod CopyLemmas
-mod SourceLemmas

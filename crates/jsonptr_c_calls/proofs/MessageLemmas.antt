@@ -3,13 +3,27 @@ use Rattle.std.proofs.Common.{◌≡◌, ℕ, List, refl}
 use Rattle.jsonptr.specs.declared.resolve.Error.TheVariants as resolve_error
 use Rattle.jsonptr.specs.declared.assign.Error.TheVariants as assign_error
 use Rattle.jsonptr.specs.Types.ParseError.TheVariants as parse_error
+use Rattle.jsonptr_patch.specs.declared.operation.PatchError.{PatchError}
 use Rattle.jsonptr_patch.specs.declared.operation.PatchError.TheVariants as patch_error
 use Rattle.jsonptr_patch_document.specs.declared.member.Member.TheVariants as member
 use Rattle.jsonptr_patch_document.specs.declared.error.PatchDocumentError.TheVariants as document_error
-use Rattle.jsonptr_c_calls.specs.Messages.{error_message, message_of}
-use Rattle.jsonptr_c_calls.specs.ErrorNumbers.{record_of}
+use Rattle.jsonptr_c_calls.specs.Messages.{error_message, message_of, patch_message}
+use Rattle.jsonptr_c_calls.specs.ErrorNumbers.{fault_number, patch_row, record_of, with_status}
+use Rattle.jsonptr_c_calls.specs.declared.error_numbers.TheConstants as number
 use Rattle.jsonptr_c_calls.specs.declared.call_error.CallError.{CallError}
 use Rattle.jsonptr_c_calls.specs.declared.call_error.CallError.TheVariants.{Memory, NoRoom, NoDocument, NotUtf8, NotJson, NotExact, NotPointer, NoToken, Resolve, NotLocated, NoValue, OtherType, Assign, NotPatch, PatchFailed, TooDeep, InverseTooDeep}
+
+-- that of an operation that fails, whatever pointer is at fault
+failed_one : (e : PatchError) (m : ℕ) → message_of (with_status number.PATCH_FAILED (patch_row e m)) ≡ patch_message e
+failed_one (patch_error.NoTarget i (resolve_error.FailedToParseIndex position offset source)) m = refl
+failed_one (patch_error.NoTarget i (resolve_error.OutOfBounds position offset source)) m = refl
+failed_one (patch_error.NoTarget i (resolve_error.NotFound position offset)) m = refl
+failed_one (patch_error.NoTarget i (resolve_error.Unreachable position offset)) m = refl
+failed_one (patch_error.BadPlace i (assign_error.FailedToParseIndex position offset source)) m = refl
+failed_one (patch_error.BadPlace i (assign_error.OutOfBounds position offset source)) m = refl
+failed_one (patch_error.MoveIntoSelf i) m = refl
+failed_one (patch_error.TestFloat i) m = refl
+failed_one (patch_error.TestFailed i) m = refl
 
 pub message_one : (e : CallError) (bytes : List ℕ) → message_of (record_of e bytes) ≡ error_message e
 message_one (Memory e) bytes = refl
@@ -49,14 +63,6 @@ message_one (NotPatch (document_error.NotPointer i member.Op (parse_error.Invali
 message_one (NotPatch (document_error.NotPointer i member.Path (parse_error.InvalidEncoding offset source))) bytes = refl
 message_one (NotPatch (document_error.NotPointer i member.From (parse_error.InvalidEncoding offset source))) bytes = refl
 message_one (NotPatch (document_error.NotPointer i member.Value (parse_error.InvalidEncoding offset source))) bytes = refl
-message_one (PatchFailed (patch_error.NoTarget i (resolve_error.FailedToParseIndex position offset source)) m) bytes = refl
-message_one (PatchFailed (patch_error.NoTarget i (resolve_error.OutOfBounds position offset source)) m) bytes = refl
-message_one (PatchFailed (patch_error.NoTarget i (resolve_error.NotFound position offset)) m) bytes = refl
-message_one (PatchFailed (patch_error.NoTarget i (resolve_error.Unreachable position offset)) m) bytes = refl
-message_one (PatchFailed (patch_error.BadPlace i (assign_error.FailedToParseIndex position offset source)) m) bytes = refl
-message_one (PatchFailed (patch_error.BadPlace i (assign_error.OutOfBounds position offset source)) m) bytes = refl
-message_one (PatchFailed (patch_error.MoveIntoSelf i) m) bytes = refl
-message_one (PatchFailed (patch_error.TestFloat i) m) bytes = refl
-message_one (PatchFailed (patch_error.TestFailed i) m) bytes = refl
+message_one (PatchFailed f) bytes = failed_one f.error (fault_number f.pointer)
 message_one TooDeep bytes = refl
 message_one InverseTooDeep bytes = refl

@@ -36,12 +36,12 @@ use Rattle.jsonptr_numbers.specs.Lost.{Loses}
 use Rattle.jsonptr_numbers.specs.declared.lost.Lost.{Lost}
 use Rattle.jsonptr_patch.specs.Inverse.{TakesAllBackBy}
 use Rattle.jsonptr_patch.specs.Order.{OperationHasSortedKeys}
-use Rattle.jsonptr_patch.specs.Patching.{PatchesBy, RefusesPatchBy}
+use Rattle.jsonptr_patch.specs.Patching.{PatchesBy, FailsBy}
 use Rattle.jsonptr_patch.specs.declared.comparison.Comparison.{Comparison}
 use Rattle.jsonptr_patch.specs.declared.comparison.Comparison.TheVariants.{Numeric}
+use Rattle.jsonptr_patch.specs.declared.failed_operation.FailedOperation.{FailedOperation}
 use Rattle.jsonptr_patch.specs.declared.operation.Operation.{Operation}
 use Rattle.jsonptr_patch.specs.declared.operation.Operation.TheVariants.{Add, Remove, Replace, Move, Copy, Test}
-use Rattle.jsonptr_patch.specs.declared.operation.PatchError.{PatchError}
 use Rattle.jsonptr_patch_document.specs.Document.{IsPatch, IsNoPatch}
 use Rattle.jsonptr_patch_document.specs.Same.{IsSameOperation, AreSameOperations}
 use Rattle.jsonptr_patch_document.specs.declared.error.PatchDocumentError.{PatchDocumentError}
@@ -359,7 +359,7 @@ not_pointed_at t k out n e u is (inr (w, inr h)) = inr (inr h)
 module _
     (one_patch : (d : Data) (os ps : List Operation) → IsPatch d os → IsPatch d ps → AreSameOperations os ps)
     (no_patch : (d : Data) (os : List Operation) (e : PatchDocumentError) → IsPatch d os → IsNoPatch d e → ⊥)
-    (apart : (n m : NodeMap) (os : List Operation) (e : PatchError) → IsDocument n → PatchesBy Numeric n os m → RefusesPatchBy Numeric n os e → ⊥)
+    (apart : (n m : NodeMap) (os : List Operation) (f : FailedOperation) → IsDocument n → PatchesBy Numeric n os m → FailsBy Numeric n os f → ⊥)
     (not_both : (s : Text) (e : ParseError) → IsPointer s → IsParseErrorOf s e → ⊥)
     (same_back : (c : Comparison) (n : NodeMap) (os ps back : List Operation) → AreSameOperations os ps → TakesAllBackBy c n os back → TakesAllBackBy c n ps back)
     (same_depth : (c : Comparison) (n : NodeMap) (os back others : List Operation) (k : ℕ) → IsDocument n → TakesAllBackBy c n os back → TakesAllBackBy c n os others → All OperationHasSortedKeys others → depth (document_of back) ≤ k + 2 → depth (document_of others) ≤ k + 2) where
@@ -386,7 +386,7 @@ module _
   not_applied t document new e u is (inl h) = patch_read t is.4.0 e u is.4.1 h
   not_applied t document new e u is (inr h) =
       let again = applies_again t (view is.0) (view is.1) h.0 is.4 h.2 in
-      applied not_both apart (view is.0) (view is.1) t h.0 e (on_held document (λ v. IsNotAppliedList (view v) t h.0 e) is.0 e is.2 h.3) again.0 again.1
+      applied not_both apart (view is.0) (view is.1) h.0 e (on_held document (λ v. IsNotAppliedList (view v) h.0 e) is.0 e is.2 h.3) again.0 again.1
 
   -- what takes the operations back is read, so it is not too deep
   not_deep : (format : Format) (t out : List ℕ) (d n : Data) (os ps : List Operation) (e : CallError) → HasSortedKeys d → IsPatchText t os → IsInverseText format d os n out → IsPatchText t ps → LacksInverse d ps e → ⊥
@@ -396,10 +396,10 @@ module _
       let low : depth (document_of inverse.0) ≤ max_depth = depth-read out (document_of inverse.0) inverse.5 in
       omega (arith, lacks.3, same_depth Numeric (nodes d) ps inverse.0 lacks.0 125 (map_of-IsTree (content d), map_of-finite (content d)) back lacks.1 values (omega (arith, low)))
 
-  inverted : (format : Format) (t out : List ℕ) (d n : Data) (ps : List Operation) (room : ℕ) (e : CallError) → HasSortedKeys d → IsPatchText t ps → AppliesWithInverse format t d n out → IsNotAppliedListWithInverse format d t ps room e → IsOutOfMemory e ⊎ IsTooShort room e
+  inverted : (format : Format) (t out : List ℕ) (d n : Data) (ps : List Operation) (room : ℕ) (e : CallError) → HasSortedKeys d → IsPatchText t ps → AppliesWithInverse format t d n out → IsNotAppliedListWithInverse format d ps room e → IsOutOfMemory e ⊎ IsTooShort room e
   inverted format t out d n ps room e sorted patch is (inl (inl h)) =
       let again = applies_again t d n ps is.0 patch in
-      inl (applied not_both apart d n t ps e h again.0 again.1)
+      inl (applied not_both apart d n ps e h again.0 again.1)
   inverted format t out d n ps room e sorted patch is (inl (inr h)) = absurd (not_deep format t out d n is.1.0 ps e sorted is.1.1 is.1.2 patch h.3)
   inverted format t out d n ps room e sorted patch is (inr h) = inr (length h.1, h.5)
 
@@ -407,7 +407,7 @@ module _
   not_inverted format t document new out n e u sorted is (inl h) = inl (patch_read t is.4.0.0 e u is.4.0.1 h)
   not_inverted format t document new out n e u sorted is (inr h) =
       let one : sorted.0 ≡ is.0 = one_held document sorted.0 is.0 sorted.1 is.2 in
-      inverted format t (take n out) (view is.0) (view is.1) h.0 (length out) e (subst (λ (v : Value). HasSortedKeys (view v)) one sorted.2) h.2 is.4 (on_held document (λ v. IsNotAppliedListWithInverse format (view v) t h.0 (length out) e) is.0 e is.2 h.3)
+      inverted format t (take n out) (view is.0) (view is.1) h.0 (length out) e (subst (λ (v : Value). HasSortedKeys (view v)) one sorted.2) h.2 is.4 (on_held document (λ v. IsNotAppliedListWithInverse format (view v) h.0 (length out) e) is.0 e is.2 h.3)
 
 compared : (format : Format) (d n : Data) (room : ℕ) (e : CallError) → IsNotCompared format d n room e → IsOutOfMemory e ⊎ IsTooShort room e
 compared format d n room e (inl h) = inl h

@@ -9,6 +9,8 @@ use Rattle.jsonptr.specs.declared.resolve.Error.TheVariants as resolve_error
 use Rattle.jsonptr.specs.declared.assign.Error as assign
 use Rattle.jsonptr.specs.declared.assign.Error.TheVariants as assign_error
 use Rattle.jsonptr.specs.Types.ParseError.TheVariants as parse_error
+use Rattle.jsonptr_patch.specs.declared.failed_operation.PatchPointer.{PatchPointer}
+use Rattle.jsonptr_patch.specs.declared.failed_operation.PatchPointer.TheVariants as pointer
 use Rattle.jsonptr_patch.specs.declared.operation.PatchError.{PatchError}
 use Rattle.jsonptr_patch.specs.declared.operation.PatchError.TheVariants as patch_error
 use Rattle.jsonptr_patch_document.specs.declared.member.Member.{Member}
@@ -84,10 +86,11 @@ member_number member.Path = number.MEMBER_PATH
 member_number member.From = number.MEMBER_FROM
 member_number member.Value = number.MEMBER_VALUE
 
--- `fault_number m`: that of the member at fault, or 0 if none is
-abbrev pub fault_number : Option Member → ℕ
+-- `fault_number p`: that of the member with the pointer at fault, or 0 if none is
+abbrev pub fault_number : Option PatchPointer → ℕ
 fault_number None = 0
-fault_number (Some m) = member_number m
+fault_number (Some pointer.From) = number.MEMBER_FROM
+fault_number (Some pointer.Path) = number.MEMBER_PATH
 
 -- `patch_row e m`: why an operation fails, and the number of the member at fault
 abbrev pub patch_row : PatchError → ℕ → ErrorRecord
@@ -153,7 +156,7 @@ status_number (NoValue offset) = number.NO_VALUE
 status_number OtherType = number.OTHER_TYPE
 status_number (Assign e) = number.NOT_ASSIGNED
 status_number (NotPatch e) = number.NOT_PATCH
-status_number (PatchFailed e m) = number.PATCH_FAILED
+status_number (PatchFailed f) = number.PATCH_FAILED
 status_number TooDeep = number.TOO_DEEP
 status_number InverseTooDeep = number.TOO_DEEP
 
@@ -173,7 +176,7 @@ fields_of (NoValue offset) bytes = row 0 0 0 0 0 0 offset 0
 fields_of OtherType bytes = no_error
 fields_of (Assign e) bytes = with_length (token_length bytes (assign_offset_of e)) (assign_row e)
 fields_of (NotPatch e) bytes = patch_document_row e
-fields_of (PatchFailed e m) bytes = patch_row e (fault_number m)
+fields_of (PatchFailed f) bytes = patch_row f.error (fault_number f.pointer)
 fields_of TooDeep bytes = no_error
 fields_of InverseTooDeep bytes = of_kind number.KIND_INVERSE_TOO_DEEP
 

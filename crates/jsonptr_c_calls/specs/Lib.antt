@@ -9,8 +9,6 @@ pub mod Editing
 pub mod InTexts
 pub mod Locations
 pub mod Exactness
-pub mod Sources
-pub mod PrivateSources
 pub mod Patches
 pub mod ErrorNumbers
 pub mod Messages

@@ -62,7 +62,7 @@ error_message (NoValue offset) = codes "no value is at offset " ++ decimal offse
 error_message OtherType = codes "the value is of another type"
 error_message (Assign e) = assign_message e
 error_message (NotPatch e) = patch_document_message e
-error_message (PatchFailed e m) = patch_message e
+error_message (PatchFailed f) = patch_message f.error
 error_message TooDeep = codes "the document could nest deeper than 10,127"
 error_message InverseTooDeep = codes "the inverse of the patch would nest deeper than 127"
 

@@ -1,5 +1,5 @@
 -- JSON Patch documents as bytes.
-use Rattle.std.specs.Prelude.{◌≡◌, ◌⊎◌, ℕ, ◌<◌, All, IsUtf8, List, Option, Some, None, length, take}
+use Rattle.std.specs.Prelude.{◌≡◌, ◌⊎◌, ℕ, ◌<◌, All, IsUtf8, List, Some, length}
 use Rattle.serde_json.specs.Data.{Data, depth}
 use Rattle.serde_json.specs.Read.{max_depth, read}
 use Rattle.serde_json.specs.View.{view}
@@ -7,21 +7,17 @@ use Rattle.jsonptr.specs.Json.{nodes, HasSortedKeys}
 use Rattle.jsonptr.specs.Node.{NodeMap}
 use Rattle.jsonptr_patch.specs.Inverse.{TakesAllBackBy}
 use Rattle.jsonptr_patch.specs.Order.{OperationHasSortedKeys}
-use Rattle.jsonptr_patch.specs.Patching.{Patches, PatchesBy, RefusesPatchBy}
+use Rattle.jsonptr_patch.specs.Patching.{Patches, PatchesBy, FailsBy}
+use Rattle.jsonptr_patch.specs.declared.failed_operation.FailedOperation.{FailedOperation}
 use Rattle.jsonptr_patch.specs.declared.operation.Operation.{Operation}
-use Rattle.jsonptr_patch.specs.declared.operation.PatchError.{PatchError}
-use Rattle.jsonptr_patch.specs.declared.operation.PatchError.TheVariants as patch_error
 use Rattle.jsonptr_patch.specs.declared.comparison.Comparison.TheVariants.{Numeric}
 use Rattle.jsonptr_patch_document.specs.Document.{IsPatch, IsNoPatch}
 use Rattle.jsonptr_patch_document.specs.Writing.{document_of}
 use Rattle.jsonptr_patch_document.specs.declared.error.PatchDocumentError.{PatchDocumentError}
-use Rattle.jsonptr_patch_document.specs.declared.member.Member.{Member}
-use Rattle.jsonptr_patch_document.specs.declared.member.Member.TheVariants as member
 use Rattle.jsonptr_c_handle.specs.declared.handle.Handle.{Handle}
 use Rattle.jsonptr_diff.specs.Diff.{IsChange, StepsTo}
 use Rattle.jsonptr_c_calls.specs.Depths.{StaysShallow}
 use Rattle.jsonptr_c_calls.specs.Failures.{FailsOnHandle, IsNotParsed, IsOutOfMemory, LacksRoom}
-use Rattle.jsonptr_c_calls.specs.Sources.{IsFaultOf, source_at}
 use Rattle.jsonptr_c_calls.specs.Values.{IsJsonText}
 use Rattle.jsonptr_in_text.specs.declared.format.Format.{Format}
 use Rattle.jsonptr_c_calls.specs.declared.call_error.CallError.{CallError}
@@ -43,37 +39,22 @@ IsNotPatchText text e =
 abbrev pub AppliesText : List ℕ → Data → Data → Type 0
 AppliesText text d n = (os : List Operation) × IsPatchText text os × StaysShallow d os × PatchesBy Numeric (nodes d) os (nodes n)
 
--- `Blames text n error m`: of the operation of the patch document `text` that fails on `n` with `error`, `m` is the member
--- with the pointer at fault, if one is: `from` if that does not resolve in the map that the operations before it leave, and
--- else `path`
-abbrev pub Blames : List ℕ → NodeMap → PatchError → Option Member → Type 0
-Blames text n (patch_error.NoTarget k cause) m =
-    (os : List Operation) × (at : Member) × IsPatchText text os × IsFaultOf n (take k os) (source_at os k) at
-    × (m ≡ Some at)
-Blames text n (patch_error.BadPlace k cause) m = m ≡ Some member.Path
-Blames text n (patch_error.MoveIntoSelf k) m = m ≡ None
-Blames text n (patch_error.TestFloat k) m = m ≡ None
-Blames text n (patch_error.TestFailed k) m = m ≡ None
+-- `FailsList n os e`: one of the operations `os` fails on `n`, and `e` reports why, and which of its pointers is at fault
+abbrev pub FailsList : NodeMap → List Operation → CallError → Type 0
+FailsList n os e = (f : FailedOperation) × FailsBy Numeric n os f × (e ≡ PatchFailed f)
 
--- `FailsText text n os e`: one of the operations `os` of the patch document `text` fails on `n`, and `e` reports why, and at
--- which of its pointers
-abbrev pub FailsText : List ℕ → NodeMap → List Operation → CallError → Type 0
-FailsText text n os e =
-    (error : PatchError) × (m : Option Member) × RefusesPatchBy Numeric n os error × Blames text n error m
-    × (e ≡ PatchFailed error m)
-
--- `IsNotAppliedList d text os e`: the operations `os` of the patch document `text` can nest the document `d` too deep, or one
--- of them fails on it, or an allocation failed, and `e` reports why
-abbrev pub IsNotAppliedList : Data → List ℕ → List Operation → CallError → Type 0
-IsNotAppliedList d text os e =
+-- `IsNotAppliedList d os e`: the operations `os` can nest the document `d` too deep, or one of them fails on it, or an
+-- allocation failed, and `e` reports why
+abbrev pub IsNotAppliedList : Data → List Operation → CallError → Type 0
+IsNotAppliedList d os e =
     ((StaysShallow d os → ⊥) × (e ≡ TooDeep))
-    ⊎ (IsOutOfMemory e ⊎ (StaysShallow d os × FailsText text (nodes d) os e))
+    ⊎ (IsOutOfMemory e ⊎ (StaysShallow d os × FailsList (nodes d) os e))
 
 -- `IsNotApplied text d e`: the operations of the patch document `text` are not applied to the document in the handle `d`,
 -- and `e` reports why
 abbrev pub IsNotApplied : List ℕ → Handle → CallError → Type 0
 IsNotApplied text d e = (os : List Operation) × IsUtf8 text × IsPatchText text os
-    × FailsOnHandle d (λ v. IsNotAppliedList (view v) text os e) e
+    × FailsOnHandle d (λ v. IsNotAppliedList (view v) os e) e
 
 -- `IsDiffText format d n text`: `text` is that of a patch document whose operations turn the document `d` into `n`, in
 -- this format. Each is a change of `d` into `n`, and a step to `n`
@@ -109,22 +90,22 @@ LacksInverse d os e =
     × (All OperationHasSortedKeys os → HasSortedKeys d → All OperationHasSortedKeys inverse)
     × (max_depth < depth (document_of inverse)) × (e ≡ InverseTooDeep)
 
--- `IsNotPatched d text os e`: the operations `os` of the patch document `text` are not applied to the document `d`, or what
--- takes them back would not be read, and `e` reports why
-abbrev pub IsNotPatched : Data → List ℕ → List Operation → CallError → Type 0
-IsNotPatched d text os e =
-    IsNotAppliedList d text os e
+-- `IsNotPatched d os e`: the operations `os` are not applied to the document `d`, or what takes them back would not be
+-- read, and `e` reports why
+abbrev pub IsNotPatched : Data → List Operation → CallError → Type 0
+IsNotPatched d os e =
+    IsNotAppliedList d os e
     ⊎ ((n : Data) × StaysShallow d os × PatchesBy Numeric (nodes d) os (nodes n) × LacksInverse d os e)
 
--- `IsNotAppliedListWithInverse format d text os room e`: those operations are not applied, or the text of what takes them
--- back does not come to `room` bytes, and `e` reports why
-abbrev pub IsNotAppliedListWithInverse : Format → Data → List ℕ → List Operation → ℕ → CallError → Type 0
-IsNotAppliedListWithInverse format d text os room e =
-    IsNotPatched d text os e
+-- `IsNotAppliedListWithInverse format d os room e`: those operations are not applied, or the text of what takes them back
+-- does not come to `room` bytes, and `e` reports why
+abbrev pub IsNotAppliedListWithInverse : Format → Data → List Operation → ℕ → CallError → Type 0
+IsNotAppliedListWithInverse format d os room e =
+    IsNotPatched d os e
     ⊎ ((n : Data) × (out : List ℕ) × StaysShallow d os × PatchesBy Numeric (nodes d) os (nodes n)
     × IsInverseText format d os n out × LacksRoom (length out) room e)
 
 -- `IsNotAppliedWithInverse format text d room e`: the same of the document in the handle `d`
 abbrev pub IsNotAppliedWithInverse : Format → List ℕ → Handle → ℕ → CallError → Type 0
 IsNotAppliedWithInverse format text d room e = (os : List Operation) × IsUtf8 text × IsPatchText text os
-    × FailsOnHandle d (λ v. IsNotAppliedListWithInverse format (view v) text os room e) e
+    × FailsOnHandle d (λ v. IsNotAppliedListWithInverse format (view v) os room e) e

@@ -4,8 +4,8 @@ ghost use Rattle.jsonptr_c_calls.specs.declared.call_error.CallError.TheVariants
 
 use jsonptr::{ParseError, assign, resolve};
 use jsonptr_numbers::Lost;
-use jsonptr_patch::PatchError;
-use jsonptr_patch_document::{Member, PatchDocumentError};
+use jsonptr_patch::FailedOperation;
+use jsonptr_patch_document::PatchDocumentError;
 use std::alloc::AllocError;
 
 /// A text that is passed to a call.
@@ -69,13 +69,8 @@ pub enum CallError {
     Assign(assign::Error),
     /// A document is not a patch.
     NotPatch(PatchDocumentError),
-    /// An operation of a patch fails.
-    PatchFailed {
-        /// Why.
-        error: PatchError,
-        /// The member of the operation with the pointer at fault, if a pointer is at fault.
-        member: Option<Member>,
-    },
+    /// An operation of a patch fails: why, and which of its pointers is at fault, if one is.
+    PatchFailed(FailedOperation),
 }
 
 impl From<AllocError> for CallError {

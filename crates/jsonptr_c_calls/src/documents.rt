@@ -328,7 +328,7 @@ pub fn patch(alloc: Global, document: &mut Handle, text: &[u8]) -> Result<(), Ca
     let Some(mut value) = document.take(alloc) else {
         return Err(CallError::NoDocument);
     };
-    let outcome = patches::apply_all(alloc, &mut value, text, operations);
+    let outcome = patches::apply_all(alloc, &mut value, operations);
     document.put(value);
     outcome
 }
@@ -378,10 +378,10 @@ pub fn patch_with_inverse(
     ensures unchanged { OnErr result (Keeps document.old document.new) }
 {
     let operations = patches::read_patch_text(alloc, text)?;
-    let Some(mut value) = document.take(alloc) else {
+    let Some(value) = document.take(alloc) else {
         return Err(CallError::NoDocument);
     };
-    match patches::patched_copy(alloc, &mut value, text, operations, format) {
+    match patches::patched_copy(alloc, &value, operations, format) {
         Ok(made) => put_patched(document, value, made, out),
         Err(call_error) => {
             document.put(value);

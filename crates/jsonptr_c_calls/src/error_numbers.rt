@@ -6,7 +6,7 @@ ghost use Rattle.jsonptr_c_calls.specs.ErrorNumbers.{argument_number, assign_row
 
 use crate::call_error::{Argument, CallError};
 use jsonptr::{ParseError, assign, resolve};
-use jsonptr_patch::PatchError;
+use jsonptr_patch::{PatchError, PatchPointer};
 use jsonptr_patch_document::{Member, PatchDocumentError};
 
 /// The status of a call that succeeds.
@@ -176,7 +176,7 @@ fn status_number(call_error: &CallError) -> u32
         CallError::OtherType => OTHER_TYPE,
         CallError::Assign(_) => NOT_ASSIGNED,
         CallError::NotPatch(_) => NOT_PATCH,
-        CallError::PatchFailed { .. } => PATCH_FAILED,
+        CallError::PatchFailed(_) => PATCH_FAILED,
         CallError::TooDeep | CallError::InverseTooDeep => TOO_DEEP,
     }
 }
@@ -209,7 +209,7 @@ fn fields_of(call_error: &CallError, pointer: &[u8]) -> ErrorRecord
             ..assign_row(error)
         },
         CallError::NotPatch(error) => patch_document_row(error),
-        CallError::PatchFailed { error, member } => patch_row(error, fault_number(*member)),
+        CallError::PatchFailed(failed) => { patch_row(&failed.error, fault_number(failed.pointer)) }
         CallError::InverseTooDeep => of_kind(KIND_INVERSE_TOO_DEEP),
         CallError::Memory(_)
         | CallError::NoDocument
@@ -341,12 +341,13 @@ fn patch_row(error: &PatchError, member: u32) -> ErrorRecord
     }
 }
 
-/// Returns the number of the member at fault, or 0 if none is.
-fn fault_number(member: Option<Member>) -> u32
-    ensures { result ≡ fault_number member }
+/// Returns the number of the member with the pointer at fault, or 0 if none is.
+fn fault_number(pointer: Option<PatchPointer>) -> u32
+    ensures { result ≡ fault_number pointer }
 {
-    match member {
-        Some(member) => member_number(member),
+    match pointer {
+        Some(PatchPointer::From) => MEMBER_FROM,
+        Some(PatchPointer::Path) => MEMBER_PATH,
         None => 0,
     }
 }

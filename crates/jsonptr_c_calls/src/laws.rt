@@ -4,7 +4,7 @@ ghost use Rattle.serde_json.specs.Data.{Data};
 ghost use Rattle.serde_json.specs.Read.{read as read_text};
 ghost use Rattle.serde_json.specs.View.{view};
 ghost use Rattle.serde_json.specs.declared.value.Value.{Value as JsonValue};
-ghost use Rattle.jsonptr.specs.Json.{HasSortedKeys};
+ghost use Rattle.jsonptr.specs.Json.{nodes, HasSortedKeys};
 ghost use Rattle.jsonptr.specs.Text.{Text, esc};
 ghost use Rattle.jsonptr_c_handle.specs.declared.handle.Handle.{Handle};
 ghost use Rattle.jsonptr_patch.specs.declared.operation.Operation.{Operation};
@@ -17,7 +17,7 @@ ghost use Rattle.jsonptr_c_calls.specs.InTexts.{FindsTextIn, IsNotPrintedFrom, L
 ghost use Rattle.jsonptr_c_calls.specs.Locations.{IsNotLocated, IsNotPointedAt, LacksLocation, LacksPointerAt, LocatesInText, PointsAt};
 ghost use Rattle.jsonptr_c_calls.specs.Messages.{HasMessageNumbers, error_message, message_of, message_room};
 ghost use Rattle.jsonptr_c_calls.specs.Nodes.{FindsNode};
-ghost use Rattle.jsonptr_c_calls.specs.Patches.{AppliesText, AppliesWithInverse, IsDiffText, IsNotApplied, IsNotAppliedList, IsNotAppliedWithInverse, IsNotCompared, IsNotPatched, IsNotPatchText};
+ghost use Rattle.jsonptr_c_calls.specs.Patches.{AppliesText, AppliesWithInverse, FailsList, IsDiffText, IsNotApplied, IsNotAppliedList, IsNotAppliedWithInverse, IsNotCompared, IsNotPatched, IsNotPatchText};
 ghost use Rattle.jsonptr_c_calls.specs.Pointers.{Extends, HasCount, HasToken, Shortens};
 ghost use Rattle.jsonptr_c_calls.specs.ErrorNumbers.{record_of};
 ghost use Rattle.jsonptr_c_calls.specs.Values.{Changes, FindsString, FindsTextOf, HoldsWith, ReadsInto};
@@ -40,9 +40,9 @@ pub fn message_law()
 {}
 
 /// States that what a call is passed fixes the status with which it fails, except that an allocation
-/// can fail. For `patch` and `patch_with_inverse` it is stated of their text and of its operations, apart. Of
-/// `lost_number`, `patch_with_inverse` and `pointer_at` a buffer that is too short is left out, and `diff` and
-/// `message` as a whole.
+/// can fail. For `patch` and `patch_with_inverse` it is stated of their text and of its operations, apart.
+/// If an operation fails, the whole error is fixed. Of `lost_number`, `patch_with_inverse` and `pointer_at` a
+/// buffer that is too short is left out, and `diff` and `message` as a whole.
 pub fn one_error_law()
     ensures count { (bytes : List ℕ) (e f : CallError)
         → IsNoPointer bytes e → IsNoPointer bytes f → SameStatus e f }
@@ -77,10 +77,12 @@ pub fn one_error_law()
         → SameStatus e f }
     ensures patch { (text : List ℕ) (e f : CallError)
         → IsNotPatchText text e → IsNotPatchText text f → SameStatus e f }
-    ensures apply { (d : Data) (text : List ℕ) (os : List Operation) (e f : CallError)
-        → IsNotAppliedList d text os e → IsNotAppliedList d text os f → SameStatus e f }
-    ensures apply_with_inverse { (d : Data) (text : List ℕ) (os : List Operation) (e f : CallError)
-        → IsNotPatched d text os e → IsNotPatched d text os f → SameStatus e f }
+    ensures apply { (d : Data) (os : List Operation) (e f : CallError)
+        → IsNotAppliedList d os e → IsNotAppliedList d os f → SameStatus e f }
+    ensures apply_with_inverse { (d : Data) (os : List Operation) (e f : CallError)
+        → IsNotPatched d os e → IsNotPatched d os f → SameStatus e f }
+    ensures failed { (d : Data) (os : List Operation) (e f : CallError)
+        → FailsList (nodes d) os e → FailsList (nodes d) os f → e ≡ f }
     ensures resolve { (format : Format) (text bytes : List ℕ) (room : ℕ) (e f : CallError)
         → IsNotPrintedFrom format text bytes room e → IsNotPrintedFrom format text bytes room f
         → SameStatus e f }

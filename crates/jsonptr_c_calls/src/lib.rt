@@ -21,6 +21,5 @@ pub mod outcome;
 pub mod patches;
 pub mod pointers;
 pub mod read;
-mod sources;
 pub mod texts;
 pub mod values;

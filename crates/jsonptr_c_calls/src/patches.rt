@@ -18,12 +18,13 @@ use crate::buffer::copy_to;
 use crate::call_error::CallError;
 use crate::depths::stays_shallow;
 use crate::read::read;
-use crate::sources::call_error_of;
 use crate::values::json_text;
 use jsonptr::Fault;
 use jsonptr_diff::diff;
 use jsonptr_in_text::Format;
-use jsonptr_patch::{Comparison, Operation, apply_comparing, apply_comparing_with_inverse};
+use jsonptr_patch::{
+    Comparison, Operation, apply_naming_pointer, apply_naming_pointer_with_inverse,
+};
 use jsonptr_patch_document::laws::{patch_document_law, writing_law};
 use jsonptr_patch_document::{read_patch, write_patch};
 use jsonptr_value::{MAX_DEPTH, copy, nests_within};
@@ -58,38 +59,30 @@ pub fn read_patch_text(alloc: Global, text: &[u8]) -> Result<Vec<Operation>, Cal
 /// - [`CallError::TooDeep`] if the operations can nest the document deeper than 10,127. Each copy and
 ///   each move counts with as many levels as its `path` has more tokens than its `from`.
 /// - [`CallError::PatchFailed`] with the first operation that fails, and which of its pointers is at
-///   fault. If that does not resolve, the text is read once more; of a move or a copy the operations
-///   before it are then applied again.
+///   fault.
 /// - [`CallError::Memory`] if an allocation fails.
 ///
 /// The document is unchanged.
-///
-/// # Conditions
-///
-/// The operations are those of the text.
 pub fn apply_all(
     alloc: Global,
     document: &mut Value,
-    text: &[u8],
     patch: Vec<Operation>,
 ) -> Result<(), CallError>
-    requires utf8 { IsUtf8 text.now }
-    requires read { IsPatchText text.now patch.items }
     ensures applied { IfOk result (λ _.
         PatchesBy Numeric (nodes (view document.old)) patch.items (nodes (view document.new))) }
     ensures shallow { OnOk result (StaysShallow (view document.old) patch.items) }
     ensures sorted { IfOk result (λ _. All OperationHasSortedKeys patch.items
         → HasSortedKeys (view document.old) → HasSortedKeys (view document.new)) }
-    ensures refused { IfErr result
-        (IsNotAppliedList (view document.old) text.now patch.items) }
+    ensures refused { IfErr result (IsNotAppliedList (view document.old) patch.items) }
     ensures unchanged { OnErr result (view document.new ≡ view document.old) }
 {
     if !stays_shallow(document, &patch) {
         return Err(CallError::TooDeep);
     }
-    match apply_comparing(alloc, document, patch, Comparison::Numeric) {
+    match apply_naming_pointer(alloc, document, patch, Comparison::Numeric) {
         Ok(()) => Ok(()),
-        Err(fault) => Err(call_error_of(alloc, document, text, fault)),
+        Err(Fault::Refused(failed)) => Err(CallError::PatchFailed(failed)),
+        Err(Fault::Memory(error)) => Err(CallError::Memory(error)),
     }
 }
 
@@ -103,46 +96,39 @@ pub struct Patched {
 }
 
 /// Returns the document after the operations of the patch document, and the text of a patch document
-/// that takes them back, in this format. The document itself is copied, and unchanged.
+/// that takes them back, in this format. The document itself is copied.
 ///
 /// # Errors
 ///
 /// - Those of [`apply_all`].
 /// - [`CallError::InverseTooDeep`] if the patch document that takes them back nests deeper than 127, so
 ///   that its text would not be read.
-///
-/// # Conditions
-///
-/// The operations are those of the text.
 pub fn patched_copy(
     alloc: Global,
-    document: &mut Value,
-    text: &[u8],
+    document: &Value,
     patch: Vec<Operation>,
     format: Format,
 ) -> Result<Patched, CallError>
-    requires utf8 { IsUtf8 text.now }
-    requires read { IsPatchText text.now patch.items }
     ensures applied { IfOk result (λ made.
-        PatchesBy Numeric (nodes (view document.old)) patch.items (nodes (view made.document))) }
-    ensures shallow { OnOk result (StaysShallow (view document.old) patch.items) }
+        PatchesBy Numeric (nodes (view document.now)) patch.items (nodes (view made.document))) }
+    ensures shallow { OnOk result (StaysShallow (view document.now) patch.items) }
     ensures sorted { IfOk result (λ made. All OperationHasSortedKeys patch.items
-        → HasSortedKeys (view document.old) → HasSortedKeys (view made.document)) }
+        → HasSortedKeys (view document.now) → HasSortedKeys (view made.document)) }
     ensures inverse { IfOk result (λ made.
-        IsInverseText format (view document.old) patch.items (view made.document) made.inverse.items) }
-    ensures refused { IfErr result (IsNotPatched (view document.old) text.now patch.items) }
-    ensures unchanged { view document.new ≡ view document.old }
+        IsInverseText format (view document.now) patch.items (view made.document) made.inverse.items) }
+    ensures refused { IfErr result (IsNotPatched (view document.now) patch.items) }
 {
     if !stays_shallow(document, &patch) {
         return Err(CallError::TooDeep);
     }
     let mut changed = copy(alloc, document)?;
-    match apply_comparing_with_inverse(alloc, &mut changed, patch, Comparison::Numeric) {
+    match apply_naming_pointer_with_inverse(alloc, &mut changed, patch, Comparison::Numeric) {
         Ok(inverse) => Ok(Patched {
             inverse: inverse_text(alloc, &inverse, format)?,
             document: changed,
         }),
-        Err(fault) => Err(call_error_of(alloc, document, text, fault)),
+        Err(Fault::Refused(failed)) => Err(CallError::PatchFailed(failed)),
+        Err(Fault::Memory(error)) => Err(CallError::Memory(error)),
     }
 }
 

@@ -8,9 +8,9 @@ use Rattle.jsonptr_c_calls.proofs.documents.patch_with_inverse.Goals as goal
 
 pub returns-in-Ok-clause-applied : goal.returns-in-Ok-clause-applied
 returns-in-Ok-clause-applied c =
-    let value = c.deref_mut.result.now in
+    let value = c.deref.result.now in
     let made = c.in-Ok.made in
-    let held : Holds c.args.document.now value = subst (Holds c.args.document.now) (sym c.deref_mut.ensures.value) c.in-Some.ensures.taken in
+    let held : Holds c.args.document.now value = subst (Holds c.args.document.now) (sym c.deref.ensures) c.in-Some.ensures.taken in
     if_ok_held c.put_patched.result _ _ _
     (λ n copied kept. (
       value,
@@ -30,9 +30,9 @@ returns-in-Ok-clause-applied c =
 
 pub returns-in-Ok-clause-bounded : goal.returns-in-Ok-clause-bounded
 returns-in-Ok-clause-bounded c =
-    let value = c.deref_mut.result.now in
+    let value = c.deref.result.now in
     let made = c.in-Ok.made in
-    let held : Holds c.args.document.now value = subst (Holds c.args.document.now) (sym c.deref_mut.ensures.value) c.in-Some.ensures.taken in
+    let held : Holds c.args.document.now value = subst (Holds c.args.document.now) (sym c.deref.ensures) c.in-Some.ensures.taken in
     let operations = c.in_ok-operations.operations.items in
     let parsed = c.in_ok-operations.ensures.parsed in
     if_ok_held c.put_patched.result _ _ _
@@ -47,9 +47,9 @@ returns-in-Ok-clause-bounded c =
 
 pub returns-in-Ok-clause-refused : goal.returns-in-Ok-clause-refused
 returns-in-Ok-clause-refused c =
-    let value = c.deref_mut.result.now in
+    let value = c.deref.result.now in
     let made = c.in-Ok.made in
-    let held : Holds c.args.document.now value = subst (Holds c.args.document.now) (sym c.deref_mut.ensures.value) c.in-Some.ensures.taken in
+    let held : Holds c.args.document.now value = subst (Holds c.args.document.now) (sym c.deref.ensures) c.in-Some.ensures.taken in
     if_err c.put_patched.result _ _ c.put_patched.ensures.refused
     (λ e lacks. inr (
       c.in_ok-operations.operations.items,
@@ -64,10 +64,10 @@ returns-in-Ok-clause-refused c =
 
 pub returns-in-Err-clause-refused : goal.returns-in-Err-clause-refused
 returns-in-Err-clause-refused c =
-    let held : Holds c.args.document.now c.deref_mut.result.now = subst (Holds c.args.document.now) (sym c.deref_mut.ensures.value) c.in-Some.ensures.taken in
+    let held : Holds c.args.document.now c.deref.result.now = subst (Holds c.args.document.now) (sym c.deref.ensures) c.in-Some.ensures.taken in
     inr (
       c.in_ok-operations.operations.items,
       c.in_ok-operations.ensures.utf8,
       c.in_ok-operations.ensures.read,
-      inr (c.deref_mut.result.now, held, inl c.in-Err.ensures.refused),
+      inr (c.deref.result.now, held, inl c.in-Err.ensures.refused),
     )

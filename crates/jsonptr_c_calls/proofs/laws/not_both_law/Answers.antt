@@ -43,10 +43,10 @@ pub returns-clause-delete : goal.returns-clause-delete
 returns-clause-delete c = not_deleted c.parse_law.ensures.not_both
 
 pub returns-clause-patch : goal.returns-clause-patch
-returns-clause-patch c = not_applied c.patch_document_law.ensures.one_patch c.patch_document_law.ensures.not_both (c.comparing_patch_law.ensures.not_both Numeric) c.parse_law.ensures.not_both c.patch_document_law.ensures.same_inverse c.inverse_depth_law.ensures.same
+returns-clause-patch c = not_applied c.patch_document_law.ensures.one_patch c.patch_document_law.ensures.not_both (c.comparing_patch_law.ensures.failure_not_both Numeric) c.parse_law.ensures.not_both c.patch_document_law.ensures.same_inverse c.inverse_depth_law.ensures.same
 
 pub returns-clause-patch_with_inverse : goal.returns-clause-patch_with_inverse
-returns-clause-patch_with_inverse c = not_inverted c.patch_document_law.ensures.one_patch c.patch_document_law.ensures.not_both (c.comparing_patch_law.ensures.not_both Numeric) c.parse_law.ensures.not_both c.patch_document_law.ensures.same_inverse c.inverse_depth_law.ensures.same
+returns-clause-patch_with_inverse c = not_inverted c.patch_document_law.ensures.one_patch c.patch_document_law.ensures.not_both (c.comparing_patch_law.ensures.failure_not_both Numeric) c.parse_law.ensures.not_both c.patch_document_law.ensures.same_inverse c.inverse_depth_law.ensures.same
 
 pub returns-clause-diff : goal.returns-clause-diff
 returns-clause-diff c = not_compared

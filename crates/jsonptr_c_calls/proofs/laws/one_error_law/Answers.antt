@@ -1,5 +1,5 @@
 use Rattle.jsonptr_patch.specs.declared.comparison.Comparison.TheVariants.{Numeric}
-use Rattle.jsonptr_c_calls.proofs.LawLemmas.{no_pointers, no_tokens, not_escaped, not_pushed, not_popped, not_parsed, not_parsed_exactly, pointer_lacked, not_printed_in, not_read_in, unfound_in, not_assigned_in, not_deleted_in, not_patch, not_applied, not_patched, not_printed_from, not_located, lacks_location}
+use Rattle.jsonptr_c_calls.proofs.LawLemmas.{no_pointers, no_tokens, not_escaped, not_pushed, not_popped, not_parsed, not_parsed_exactly, pointer_lacked, not_printed_in, not_read_in, unfound_in, not_assigned_in, not_deleted_in, not_patch, not_applied, not_patched, failed_one, not_printed_from, not_located, lacks_location}
 use Rattle.jsonptr_c_calls.proofs.laws.one_error_law.Goals as goal
 
 pub returns-clause-count : goal.returns-clause-count
@@ -48,7 +48,10 @@ pub returns-clause-apply : goal.returns-clause-apply
 returns-clause-apply c = not_applied c.parse_law.ensures.not_both
 
 pub returns-clause-apply_with_inverse : goal.returns-clause-apply_with_inverse
-returns-clause-apply_with_inverse c = not_patched c.parse_law.ensures.not_both (c.comparing_patch_law.ensures.not_both Numeric)
+returns-clause-apply_with_inverse c = not_patched c.parse_law.ensures.not_both (c.comparing_patch_law.ensures.failure_not_both Numeric)
+
+pub returns-clause-failed : goal.returns-clause-failed
+returns-clause-failed c = failed_one (c.comparing_patch_law.ensures.one_failure Numeric)
 
 pub returns-clause-resolve : goal.returns-clause-resolve
 returns-clause-resolve c = not_printed_from c.parse_law.ensures.not_both
