@@ -219,7 +219,8 @@ def check_version():
     if not number:
         return expect(False, "crates/jsonptr/VERSION", f"{version} is no version")
     major, minor, patch = number.groups()
-    interface = f"{major}.{minor}" if major == "0" else major
+    # docs/C.md begins with the files of the last release.
+    interface = release.rsplit(".", 1)[0] if release.startswith("0.") else release.split(".")[0]
     last = f"Version {version}, of {date}" if version == release else f"Version {version}, not released: the last release is {release}, of {date}"
     places = (
         ("README.md", last),

@@ -87,10 +87,11 @@
  *             nor in a process that was forked while another thread was in a call.
  * Never       The library never prints, exits, aborts or waits.
  * Tested      What a call returns is proved, except for what docs/PROVED.md of
- *             the project lists as tested. So are which numbers that are read as
- *             doubles lose digits, so that 1.10 does not; which bytes that read as
- *             a value are located; that the value at an offset is the innermost
- *             one.
+ *             the project lists as tested. Three things are tested: that of the
+ *             numbers that are read as doubles exactly those lose digits that the
+ *             header says (1.10 loses none); that the bytes that are located are
+ *             the value's own, and not those of an equal value elsewhere; that the
+ *             value at an offset is the innermost one.
  *
  * WHAT THE CALLER MUST UPHOLD
  *
@@ -133,9 +134,9 @@
  * that ends in "-dev" is not released, and has the numbers of the one that will be.
  * JSONPTR_VERSION_NUMBER is for #if, as in #if JSONPTR_VERSION_NUMBER >= 3000. */
 #define JSONPTR_VERSION_MAJOR 0
-#define JSONPTR_VERSION_MINOR 3
+#define JSONPTR_VERSION_MINOR 4
 #define JSONPTR_VERSION_PATCH 0
-#define JSONPTR_VERSION "0.3.0"
+#define JSONPTR_VERSION "0.4.0-dev"
 #define JSONPTR_VERSION_NUMBER \
     (JSONPTR_VERSION_MAJOR * 1000000 + JSONPTR_VERSION_MINOR * 1000 + JSONPTR_VERSION_PATCH)
 
@@ -590,7 +591,7 @@ jsonptr_status jsonptr_document_delete(jsonptr_document *document,
  *           operation reads or writes above or below one of them, or in another
  *           element of an array around it, all leave before it, which takes time
  *           linear in their objects. A value that is added where a member waits
- *           takes its place. JSONPTR_PATCH_FAILED costs at most twice as much. */
+ *           takes its place. */
 JSONPTR_API JSONPTR_NODISCARD
 jsonptr_status jsonptr_document_patch(jsonptr_document *document,
                                       const char *text, size_t text_length,

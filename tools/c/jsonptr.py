@@ -64,7 +64,7 @@ __all__ = ["Document", "JsonPatchError", "JsonPointerError", "JsonptrError", "No
            "NotPointer", "Patch", "Span", "TooDeep", "escape", "locate", "lost_number", "make_patch", "pointer_at", "resolve",
            "resolve_in_text", "tokens", "version"]
 
-__version__ = "0.3.0"
+__version__ = "0.4.0-dev"
 
 Text = Union[str, bytes, bytearray, memoryview]
 JSON = Union[None, bool, int, float, str, Sequence["JSON"], Mapping[str, "JSON"]]
@@ -143,8 +143,8 @@ class JsonptrError(ValueError):
     `status` and `kind` are the numbers of jsonptr.h, which says in a table which error has which of the other fields.
     `position` is that of the token at fault, from 0, and `slash` the offset of the slash before it. `offset` and
     `length` are the bytes at fault, in UTF-8; of a text that is not JSON, `offset` is where reading stopped, and of
-    `pointer_at` it is what was passed. A field
-    that an error does not have is 0: a pointer in a patch has no `length`. `operation` and `member` are those of a
+    a `NotFound` of `pointer_at` it is what was passed. A field that an error does not have is 0: a pointer in a
+    patch has no `length`. `operation` and `member` are those of a
     patch, or None. Of bytes that are not UTF-8, `member` is "pointer", "token" or "text". A number that this module does
     not know, of a later library, is None in `member`.
     """

@@ -5,7 +5,7 @@ use clap::{Arg, ArgAction, Command};
 use std::alloc::{AllocError, Global};
 
 /// The version of the project, as in `crates/jsonptr/VERSION`.
-const VERSION: &str = "0.3.0";
+const VERSION: &str = "0.4.0-dev";
 
 /// What `--sort-keys` does where a result keeps its layout otherwise.
 const SORTED: &str =
