@@ -25,6 +25,7 @@ use clap::error::ErrorKind;
 use clap::{ArgMatches, Error};
 use jptr_tasks::exit_status::USAGE;
 use jptr_tasks::layout::{Layout, show};
+use jptr_tasks::long_patch::is_long;
 use jptr_tasks::task::Task;
 use jsonptr::{Pointer, Token};
 use serde_json::Value;
@@ -165,7 +166,7 @@ fn patch(rt: &HostRuntime, matches: &ArgMatches<'_>) -> Result<u8, ProgramError>
     if let Some(undo) = matches.get_str("inverse") {
         return patch_with_inverse(rt, matches, patch.into_raw(alloc)?, undo);
     }
-    if patch.is_long() && !matches.get_flag("lines") {
+    if is_long(&patch.patch.operations) && !matches.get_flag("lines") {
         return patch_long(rt, matches, patch);
     }
     run_task(rt, matches, Task::Patch(patch.into_raw(alloc)?))

@@ -1,5 +1,5 @@
 //! What is at fault with a deletion or an operation of a patch: its pointer, drawn, or both values of a
-//! test. The document is read again for it, where a command has failed.
+//! test. For a deletion and a test the document is read again, where a command has failed.
 
 use crate::report::drawn;
 use crate::shown::shown;
@@ -10,7 +10,9 @@ use jptr_tasks::task_error::TaskError;
 use jsonptr::diagnostic::Diagnostic;
 use jsonptr::{Fault, Pointer, assign, resolve};
 use jsonptr_in_text::{InTextError, resolve_in_text};
-use jsonptr_patch::{Comparison, Operation, PatchError, apply_comparing};
+use jsonptr_patch::{
+    Comparison, FailedOperation, Operation, PatchError, PatchPointer, apply_comparing,
+};
 use jsonptr_value::if_json;
 use serde_json::Value;
 use simdutf8::basic::from_utf8;
@@ -41,7 +43,7 @@ pub fn fault_of_patch(
     error: &TaskError,
 ) -> Result<Option<String>, AllocError> {
     match error {
-        TaskError::PatchFailed(error) => fault_of_operation(alloc, bytes, patch, error),
+        TaskError::PatchFailed(failed) => fault_of_operation(alloc, bytes, patch, failed),
         _ => Ok(None),
     }
 }
@@ -72,14 +74,91 @@ fn drawn_at(
     drawn(alloc, &error.into_report(pointer.to_buf(alloc)?))
 }
 
-/// Returns what is at fault with the operation of the patch document at which it fails.
+/// Returns what is at fault with the operation of the patch document that failed: its pointer at fault, or
+/// the values of a test.
 fn fault_of_operation(
     alloc: Global,
     bytes: &[u8],
     patch: &Value,
-    error: &PatchError,
+    failed: &FailedOperation,
 ) -> Result<Option<String>, AllocError> {
-    let Some((operation, before)) = split_at(alloc, patch, position_of(error))? else {
+    match &failed.error {
+        PatchError::NoTarget { operation, cause } => {
+            let is_path = failed.pointer == Some(PatchPointer::Path);
+            match pointer_of(patch, *operation, failed.pointer) {
+                Some(path) if is_path && is_below_scalar(patch, *operation, path, cause) => {
+                    Ok(None)
+                }
+                Some(pointer) => Ok(Some(drawn_at(alloc, pointer, cause.clone()?)?)),
+                None => Ok(None),
+            }
+        }
+        PatchError::BadPlace { operation, cause } => {
+            match pointer_of(patch, *operation, failed.pointer) {
+                Some(pointer) => Ok(Some(drawn_index(alloc, pointer, cause.clone()?)?)),
+                None => Ok(None),
+            }
+        }
+        PatchError::TestFailed { operation } => fault_of_test(alloc, bytes, patch, *operation),
+        PatchError::MoveIntoSelf { .. } | PatchError::TestFloat { .. } => Ok(None),
+    }
+}
+
+/// Returns the pointer with carets below its last token, which is not an index at which a value can be
+/// added.
+fn drawn_index(
+    alloc: Global,
+    pointer: Pointer<'_>,
+    error: assign::Error,
+) -> Result<String, AllocError> {
+    let report = assign::Error::into_report(error, pointer.to_buf(alloc)?);
+    drawn(alloc, &report)
+}
+
+/// Returns the pointer at fault of the operation of the patch document at this position.
+fn pointer_of(
+    patch: &Value,
+    position: usize,
+    pointer: Option<PatchPointer>,
+) -> Option<Pointer<'_>> {
+    let member = match pointer {
+        Some(PatchPointer::From) => "from",
+        Some(PatchPointer::Path) => "path",
+        None => return None,
+    };
+    Pointer::parse(member_text(patch, position, member)?).ok()
+}
+
+/// Returns the text of this member of the operation of the patch document at this position.
+fn member_text<'p>(patch: &'p Value, position: usize, member: &str) -> Option<&'p str> {
+    patch.get(position)?.get(member)?.as_str()
+}
+
+/// Returns whether the operation of the patch document at this position adds a value, at the path, below one
+/// that is neither an array nor an object. Each token of the parent leads somewhere then, and none is drawn.
+fn is_below_scalar(
+    patch: &Value,
+    position: usize,
+    path: Pointer<'_>,
+    cause: &resolve::Error,
+) -> bool {
+    let is_last = cause.position().saturating_add(1) == path.count();
+    let is_addition = match member_text(patch, position, "op") {
+        Some(name) => matches!(name, "add" | "move" | "copy"),
+        None => false,
+    };
+    is_last && is_addition && matches!(cause, resolve::Error::Unreachable { .. })
+}
+
+/// Returns a line with both values of the test of the patch document at this position, which failed. The
+/// operations before it are applied again for that.
+fn fault_of_test(
+    alloc: Global,
+    bytes: &[u8],
+    patch: &Value,
+    position: usize,
+) -> Result<Option<String>, AllocError> {
+    let Some((operation, before)) = split_at(alloc, patch, position)? else {
         return Ok(None);
     };
     let Ok(text) = from_utf8(bytes) else {
@@ -89,20 +168,9 @@ fn fault_of_operation(
         return Ok(None);
     };
     match apply_comparing(alloc, &mut document, before, Comparison::Numeric) {
-        Ok(()) => fault_of(alloc, &mut document, &operation),
+        Ok(()) => values_of_test(alloc, &document, &operation),
         Err(Fault::Memory(error)) => Err(error),
         Err(Fault::Refused(_)) => Ok(None),
-    }
-}
-
-/// Returns the position of the operation that failed.
-fn position_of(error: &PatchError) -> usize {
-    match error {
-        PatchError::NoTarget { operation, .. }
-        | PatchError::BadPlace { operation, .. }
-        | PatchError::MoveIntoSelf { operation }
-        | PatchError::TestFloat { operation }
-        | PatchError::TestFailed { operation } => *operation,
     }
 }
 
@@ -127,75 +195,19 @@ fn split_at(
     Ok(None)
 }
 
-/// Returns what is at fault with an operation that fails on the document.
-fn fault_of(
-    alloc: Global,
-    document: &mut Value,
-    operation: &Operation,
-) -> Result<Option<String>, AllocError> {
-    match operation {
-        Operation::Add { path, .. } => parent_or_index(alloc, document, path.as_ptr()),
-        Operation::Remove { path } | Operation::Replace { path, .. } => {
-            unresolved(alloc, document, path.as_ptr(), path.as_ptr())
-        }
-        Operation::Move { from, path } | Operation::Copy { from, path } => {
-            match unresolved(alloc, document, from.as_ptr(), from.as_ptr())? {
-                Some(drawing) => Ok(Some(drawing)),
-                None => parent_or_index(alloc, document, path.as_ptr()),
-            }
-        }
-        Operation::Test { path, value } => match path.as_ptr().resolve(alloc, document) {
-            Ok(found) => Ok(Some(difference(alloc, path.as_ptr(), found, value)?)),
-            Err(Fault::Refused(error)) => Ok(Some(drawn_at(alloc, path.as_ptr(), error)?)),
-            Err(Fault::Memory(error)) => Err(error),
-        },
-    }
-}
-
-/// Returns the pointer with carets below the token that leads to no value of the document. The first of
-/// its tokens, or all, are the pointer that is resolved.
-fn unresolved(
+/// Returns a line with both values of a test that fails on the document.
+fn values_of_test(
     alloc: Global,
     document: &Value,
-    resolved: Pointer<'_>,
-    pointer: Pointer<'_>,
+    operation: &Operation,
 ) -> Result<Option<String>, AllocError> {
-    match resolved.resolve(alloc, document) {
-        Ok(_) => Ok(None),
-        Err(Fault::Refused(error)) => Ok(Some(drawn_at(alloc, pointer, error)?)),
-        Err(Fault::Memory(error)) => Err(error),
-    }
-}
-
-/// Returns the pointer with carets below the token at which nothing can be added to the document.
-fn parent_or_index(
-    alloc: Global,
-    document: &mut Value,
-    pointer: Pointer<'_>,
-) -> Result<Option<String>, AllocError> {
-    let Some(parent) = pointer.parent() else {
+    let Operation::Test { path, value } = operation else {
         return Ok(None);
     };
-    match unresolved(alloc, document, parent, pointer)? {
-        Some(drawing) => Ok(Some(drawing)),
-        None => index(alloc, document, pointer),
-    }
-}
-
-/// Returns the pointer with carets below its last token if that is not an index at which a value can be
-/// added to an array.
-fn index(
-    alloc: Global,
-    document: &mut Value,
-    pointer: Pointer<'_>,
-) -> Result<Option<String>, AllocError> {
-    match pointer.assign(alloc, document, Value::Null) {
-        Ok(_replaced) => Ok(None),
-        Err(Fault::Refused(error)) => {
-            let report = assign::Error::into_report(error, pointer.to_buf(alloc)?);
-            Ok(Some(drawn(alloc, &report)?))
-        }
+    match path.as_ptr().resolve(alloc, document) {
+        Ok(found) => Ok(Some(difference(alloc, path.as_ptr(), found, value)?)),
         Err(Fault::Memory(error)) => Err(error),
+        Err(Fault::Refused(_)) => Ok(None),
     }
 }
 

@@ -6,11 +6,15 @@ use crate::source::Source;
 use crate::style::{OutputStyle, indented, style_of};
 use crate::task::{checked, on_source};
 use clap::ArgMatches;
+use jptr_tasks::failed_patch::FailedPatch;
 use jptr_tasks::layout::Layout;
 use jptr_tasks::long_patch::patch_in_layout;
+use jptr_tasks::patch::raw_patch;
+use jptr_tasks::raw_patch::RawPatch;
 use jptr_tasks::task::Task;
 use jptr_tasks::task_error::TaskError;
 use jsonptr_numbers::find_lost;
+use serde_json::Value;
 use simdutf8::basic::from_utf8;
 use std::alloc::{AllocError, Global};
 
@@ -30,59 +34,91 @@ pub fn patch_long(
     if is_check {
         style.layout = Layout::Compact;
     }
-    if source.has_comments() {
-        return one_by_one(rt, &source, patch, style, is_check);
+    if source.has_comments() || !keeps_digits(alloc, &source, &patch.source)? {
+        return one_by_one(rt, &source, patch.into_raw(alloc)?, style, is_check);
     }
-    match new_text(alloc, source.as_bytes(), &patch, style) {
-        Ok(Some(_)) if is_check => Ok(0),
-        Ok(Some(new)) => {
+    match new_text(alloc, &source, patch, style)? {
+        Ok(_new) if is_check => Ok(0),
+        Ok(new) => {
             source.put(rt, new.as_str())?;
             Ok(0)
         }
-        Ok(None) => one_by_one(rt, &source, patch, style, is_check),
-        Err(error) => Err(source.patch_error(alloc, &patch.document, error)),
+        Err(patch) => one_by_one(rt, &source, patch, style, is_check),
     }
 }
 
-/// Returns the new document, or `None` if the operations have to be applied in the text, one by one.
+/// Returns whether both are texts, and no number of them loses digits.
+fn keeps_digits(
+    alloc: Global,
+    source: &Source<'_>,
+    patch: &Source<'_>,
+) -> Result<bool, AllocError> {
+    let (Ok(text), Ok(given)) = (from_utf8(source.as_bytes()), from_utf8(patch.as_bytes())) else {
+        return Ok(false);
+    };
+    Ok(find_lost(alloc, text)?.is_none() && find_lost(alloc, given)?.is_none())
+}
+
+/// Returns the new document. Returns the patch if its operations have to be applied in the text, one by
+/// one.
 fn new_text(
     alloc: Global,
-    bytes: &[u8],
-    patch: &PatchFile<'_>,
+    source: &Source<'_>,
+    patch: PatchFile<'_>,
     style: OutputStyle,
-) -> Result<Option<String>, TaskError> {
-    let (Ok(text), Ok(given)) = (from_utf8(bytes), from_utf8(patch.source.as_bytes())) else {
-        return Ok(None);
-    };
-    if loses_digits(alloc, text)? || loses_digits(alloc, given)? {
-        return Ok(None);
-    }
-    match patch_in_layout(alloc, text, &patch.document, given, style.layout) {
-        Ok(mut new) => {
-            if style.layout != Layout::Kept {
-                new.push('\n')?;
-            }
-            Ok(Some(indented(alloc, new, style)?))
-        }
-        Err(TaskError::NotInPlace) => Ok(None),
-        Err(error) => Err(error),
+) -> Result<Result<String, RawPatch>, ProgramError> {
+    let PatchFile {
+        source: file,
+        patch,
+    } = patch;
+    let given = file.text(alloc)?;
+    match patch_in_layout(alloc, source.text(alloc)?, patch, given, style.layout) {
+        Ok(new) => Ok(Ok(finished(alloc, source, new, style)?)),
+        Err(FailedPatch { document, error }) => match error {
+            TaskError::NotInPlace => Ok(Err(raw_patch_in(alloc, &file, document)?)),
+            error => Err(source.patch_error(alloc, &document, error)),
+        },
     }
 }
 
-/// Returns whether a number of the text loses digits.
-fn loses_digits(alloc: Global, text: &str) -> Result<bool, AllocError> {
-    Ok(find_lost(alloc, text)?.is_some())
+/// Returns the new document as it is printed, with a line break at its end if it is laid out anew.
+fn finished(
+    alloc: Global,
+    source: &Source<'_>,
+    new: String,
+    style: OutputStyle,
+) -> Result<String, ProgramError> {
+    let mut new = new;
+    if style.layout != Layout::Kept {
+        new.push('\n')?;
+    }
+    match indented(alloc, new, style) {
+        Ok(new) => Ok(new),
+        Err(error) => Err(source.error(alloc, "", error)),
+    }
+}
+
+/// Returns the patch that the document is, with the texts of its values in the file.
+fn raw_patch_in(
+    alloc: Global,
+    file: &Source<'_>,
+    document: Value,
+) -> Result<RawPatch, ProgramError> {
+    match raw_patch(alloc, file.text(alloc)?, document) {
+        Ok(patch) => Ok(patch),
+        Err(error) => Err(ProgramError::of_error(alloc, file.name, "", error)),
+    }
 }
 
 /// Applies the operations in the text.
 fn one_by_one(
     rt: &HostRuntime,
     source: &Source<'_>,
-    patch: PatchFile<'_>,
+    patch: RawPatch,
     style: OutputStyle,
     is_check: bool,
 ) -> Result<u8, ProgramError> {
-    let task = Task::Patch(patch.into_raw(rt.alloc())?);
+    let task = Task::Patch(patch);
     if is_check {
         checked(rt.alloc(), source, &task)
     } else {

@@ -3,22 +3,21 @@
 use crate::operands::{argument, check_json, pointer_of};
 use crate::program_error::ProgramError;
 use crate::source::Source;
-use crate::style::style_of;
+use crate::style::{OutputStyle, style_of};
 use crate::task::{result_of, run_task, tried};
 use crate::value_argument::ValueArgument;
 use clap::ArgMatches;
 use jptr_tasks::exit_status::{NOT_MADE, USAGE};
 use jptr_tasks::layout::Layout;
 use jptr_tasks::node::{length_in_text, type_in_text};
-use jptr_tasks::patch::raw_patch;
 use jptr_tasks::raw_patch::RawPatch;
 use jptr_tasks::task::Task;
 use jptr_tasks::task_error::TaskError;
 use jsonptr::{Pointer, PointerBuf, Token};
+use jsonptr_edit_in_text::RawValue;
 use jsonptr_in_text::exists_in_text;
-use jsonptr_patch::{PatchError, is_proper_prefix};
+use jsonptr_patch::{FailedOperation, Operation, PatchError, PatchPointer, is_proper_prefix};
 use jsonptr_value::{NodeType, if_json};
-use serde_json::Value;
 use std::alloc::{AllocError, Global};
 use std::borrow::CowStr;
 
@@ -28,12 +27,25 @@ const INTO_SELF: &str = "FROM is a proper prefix of it";
 /// An operation, and the pointers that an error can be about.
 #[derive(Drop)]
 struct SingleOperation<'a> {
-    /// The text of the patch that it is.
-    patch: String,
+    /// The task of the patch that it is.
+    task: Task<'a>,
     /// Where the value is taken from, if it is in the document.
     from: Option<Pointer<'a>>,
     /// Where it is put.
     path: Pointer<'a>,
+}
+
+impl<'a> SingleOperation<'a> {
+    /// Returns the pointer that the error is about.
+    fn pointer_of(&self, error: &TaskError) -> Pointer<'a> {
+        match (error, self.from) {
+            (TaskError::PatchFailed(failed), Some(from)) => match failed.pointer {
+                Some(PatchPointer::From) => from,
+                Some(PatchPointer::Path) | None => self.path,
+            },
+            _ => self.path,
+        }
+    }
 }
 
 /// Inserts a value before an element of an array, or adds a member: the operation `add`.
@@ -42,15 +54,25 @@ pub fn insert(rt: &HostRuntime, matches: &ArgMatches<'_>) -> Result<u8, ProgramE
     check_json(alloc, "insert", matches.get_str("FILE"))?;
     let path = pointer_of(alloc, argument(matches, "POINTER"))?;
     let value = ValueArgument::read(rt, matches, argument(matches, "JSON"))?.raw(alloc)?;
-    let value = value.printed.flat.as_str();
-    let quoted = quoted(alloc, path)?;
-    let patch = format!(in alloc; "[{{\"op\":\"add\",\"path\":{quoted},\"value\":{value}}}]")?;
+    if matches.get_flag("lines") {
+        return run_task(rt, matches, Task::Patch(addition(alloc, path, value)?));
+    }
+    let source = Source::open(rt, matches)?;
+    let style = style_of(alloc, matches)?;
     let operation = SingleOperation {
-        patch,
+        task: Task::Patch(addition(alloc, path, value)?),
         from: None,
         path,
     };
-    run(rt, matches, &operation)
+    put(rt, &source, &operation, style)
+}
+
+/// Returns the patch that adds the value at the pointer.
+fn addition(alloc: Global, path: Pointer<'_>, value: RawValue) -> Result<RawPatch, ProgramError> {
+    match RawPatch::of_addition(alloc, path, value) {
+        Ok(patch) => Ok(patch),
+        Err(error) => Err(ProgramError::of_error(alloc, "JSON", "", error)),
+    }
 }
 
 /// Moves or copies a value: the operation with this name.
@@ -68,7 +90,7 @@ pub fn transfer(
     }
     let operation = transfer_of(alloc, command, from, path)?;
     if command == "copy" || matches.get_flag("lines") {
-        return run(rt, matches, &operation);
+        return run(rt, matches, operation);
     }
     let source = Source::open(rt, matches)?;
     put_moved(rt, matches, &source, operation)
@@ -81,18 +103,24 @@ fn transfer_of<'a>(
     from: Pointer<'a>,
     path: Pointer<'a>,
 ) -> Result<SingleOperation<'a>, AllocError> {
-    let (old, new) = (quoted(alloc, from)?, quoted(alloc, path)?);
-    let patch = format!(in alloc; "[{{\"op\":\"{command}\",\"from\":{old},\"path\":{new}}}]")?;
+    let (old, new) = (from.to_buf(alloc)?, path.to_buf(alloc)?);
+    let operation = if command == "copy" {
+        Operation::Copy {
+            from: old,
+            path: new,
+        }
+    } else {
+        Operation::Move {
+            from: old,
+            path: new,
+        }
+    };
+    let patch = RawPatch::of_operations(alloc, vec![in alloc; operation]?)?;
     Ok(SingleOperation {
-        patch,
+        task: Task::Patch(patch),
         from: Some(from),
         path,
     })
-}
-
-/// Returns the text of the pointer as a JSON string.
-fn quoted(alloc: Global, pointer: Pointer<'_>) -> Result<String, AllocError> {
-    Value::String(String::from_str(alloc, pointer.as_str())?).to_string(alloc)
 }
 
 /// Gives a member another key. Fails if the object has a member with that key.
@@ -124,13 +152,15 @@ fn put_moved(
     if operation.from == Some(operation.path) {
         return put_unmoved(rt, matches, source, operation.path);
     }
-    if let Some(patch) = only_child_patch(rt.alloc(), source, &operation)? {
+    let other = only_child_patch(rt.alloc(), source, &operation)?;
+    let style = style_of(rt.alloc(), matches)?;
+    if let Some(patch) = other {
         // A move that is made loses no comment.
-        if !source.has_comments() || is_made(rt.alloc(), matches, source, &operation)? {
-            operation.patch = patch;
+        if !source.has_comments() || is_made(rt.alloc(), source, &operation, style)? {
+            operation.task = Task::Patch(patch);
         }
     }
-    put(rt, matches, source, &operation)
+    put(rt, source, &operation, style)
 }
 
 /// Prints the document, or leaves its file as it is, if the pointer resolves to a value.
@@ -159,12 +189,11 @@ fn put_unmoved(
 /// Returns whether the operation can be made in the document.
 fn is_made(
     alloc: Global,
-    matches: &ArgMatches<'_>,
     source: &Source<'_>,
     operation: &SingleOperation<'_>,
+    style: OutputStyle,
 ) -> Result<bool, ProgramError> {
-    let task = Task::Patch(patch_of(alloc, operation.patch.as_str())?);
-    match tried(alloc, source, &task, style_of(alloc, matches)?) {
+    match tried(alloc, source, &operation.task, style) {
         Ok(made) => Ok(made.is_ok()),
         Err(ProgramError::Memory) => Err(ProgramError::Memory),
         // It is made again, and its error is reported then.
@@ -172,22 +201,27 @@ fn is_made(
     }
 }
 
-/// Returns the text of the patch that copies the only child of an array or an object to another place in
-/// it, and then removes it. Returns `None` if the operation does not move such a child.
+/// Returns the patch that copies the only child of an array or an object to another place in it, and then
+/// removes it. Returns `None` if the operation does not move such a child.
 fn only_child_patch(
     alloc: Global,
     source: &Source<'_>,
     operation: &SingleOperation<'_>,
-) -> Result<Option<String>, ProgramError> {
+) -> Result<Option<RawPatch>, ProgramError> {
     let Some(from) = operation.from else {
         return Ok(None);
     };
     if !moves_only_child(alloc, source, from, operation.path)? {
         return Ok(None);
     }
-    let (old, new) = (quoted(alloc, from)?, quoted(alloc, operation.path)?);
-    let copy = format!(in alloc; "{{\"op\":\"copy\",\"from\":{old},\"path\":{new}}}")?;
-    let patch = format!(in alloc; "[{copy},{{\"op\":\"remove\",\"path\":{old}}}]")?;
+    let copy = Operation::Copy {
+        from: from.to_buf(alloc)?,
+        path: operation.path.to_buf(alloc)?,
+    };
+    let remove = Operation::Remove {
+        path: from.to_buf(alloc)?,
+    };
+    let patch = RawPatch::of_operations(alloc, vec![in alloc; copy, remove]?)?;
     Ok(Some(patch))
 }
 
@@ -275,44 +309,30 @@ fn check_member(
 fn run(
     rt: &HostRuntime,
     matches: &ArgMatches<'_>,
-    operation: &SingleOperation<'_>,
+    operation: SingleOperation<'_>,
 ) -> Result<u8, ProgramError> {
     if matches.get_flag("lines") {
-        let patch = patch_of(rt.alloc(), operation.patch.as_str())?;
-        return run_task(rt, matches, Task::Patch(patch));
+        return run_task(rt, matches, operation.task);
     }
-    put(rt, matches, &Source::open(rt, matches)?, operation)
-}
-
-/// Returns the patch with this text.
-fn patch_of(alloc: Global, patch: &str) -> Result<RawPatch, ProgramError> {
-    let Some(document) = if_json(jsonptr_value::read(alloc, patch))? else {
-        // The value is JSON, but the patch with it nests two levels deeper.
-        return Err(ProgramError::of_error(alloc, "JSON", "", TaskError::PatchTooDeep));
-    };
-    match raw_patch(alloc, patch, document) {
-        Ok(raw) => Ok(raw),
-        Err(error) => Err(ProgramError::of_error(alloc, "JSON", "", error)),
-    }
+    let source = Source::open(rt, matches)?;
+    put(rt, &source, &operation, style_of(rt.alloc(), matches)?)
 }
 
 /// Prints the document after the operation, or replaces the text of the file by it.
 fn put(
     rt: &HostRuntime,
-    matches: &ArgMatches<'_>,
     source: &Source<'_>,
     operation: &SingleOperation<'_>,
+    style: OutputStyle,
 ) -> Result<u8, ProgramError> {
     let alloc = rt.alloc();
-    let style = style_of(alloc, matches)?;
-    let task = Task::Patch(patch_of(alloc, operation.patch.as_str())?);
-    match tried(alloc, source, &task, style)? {
+    match tried(alloc, source, &operation.task, style)? {
         Ok(new) => {
             source.put(rt, new.as_str())?;
             Ok(0)
         }
         Err(error) => {
-            let pointer = pointer_at_fault(alloc, source, operation)?;
+            let pointer = operation.pointer_of(&error);
             Err(source.error(alloc, pointer.as_str(), error_of(error)))
         }
     }
@@ -321,23 +341,11 @@ fn put(
 /// Returns the error of the one operation, without its number.
 fn error_of(error: TaskError) -> TaskError {
     match error {
-        TaskError::PatchFailed(PatchError::NoTarget { cause, .. }) => TaskError::Resolve(cause),
-        TaskError::PatchFailed(PatchError::BadPlace { cause, .. }) => TaskError::Assign(cause),
+        TaskError::PatchFailed(FailedOperation { error, pointer }) => match error {
+            PatchError::NoTarget { cause, .. } => TaskError::Resolve(cause),
+            PatchError::BadPlace { cause, .. } => TaskError::Assign(cause),
+            error => TaskError::PatchFailed(FailedOperation { error, pointer }),
+        },
         error => error,
-    }
-}
-
-/// Returns the pointer that an error is about: the one that the value is taken from, if it does not resolve.
-fn pointer_at_fault<'a>(
-    alloc: Global,
-    source: &Source<'_>,
-    operation: &SingleOperation<'a>,
-) -> Result<Pointer<'a>, ProgramError> {
-    let Some(from) = operation.from else {
-        return Ok(operation.path);
-    };
-    match if_json(exists_in_text(alloc, source.text(alloc)?, from))? {
-        Some(false) => Ok(from),
-        Some(true) | None => Ok(operation.path),
     }
 }

@@ -2,22 +2,18 @@
 
 use crate::program_error::ProgramError;
 use crate::source::Source;
-use jptr_tasks::patch::{operations_of, raw_patch};
+use jptr_tasks::failed_patch::FailedPatch;
+use jptr_tasks::plain_patch::PlainPatch;
 use jptr_tasks::raw_patch::RawPatch;
-use serde_json::Value;
 use std::alloc::Global;
-
-/// The number of operations above which a patch is not applied one by one in the text. Each of them
-/// reads the whole text.
-const MOST_IN_TEXT: usize = 16;
 
 /// A patch document.
 #[derive(Drop)]
 pub struct PatchFile<'a> {
     /// Its name and its bytes.
     pub source: Source<'a>,
-    /// The document, which is a patch.
-    pub document: Value,
+    /// The document, and its operations.
+    pub patch: PlainPatch,
 }
 
 impl<'a> PatchFile<'a> {
@@ -25,25 +21,22 @@ impl<'a> PatchFile<'a> {
     pub fn read(rt: &HostRuntime, file: &'a str) -> Result<PatchFile<'a>, ProgramError> {
         let alloc = rt.alloc();
         let source = Source::read(rt, Some(file))?;
-        let document = source.value(alloc)?;
-        match operations_of(alloc, &document) {
-            Ok(_) => Ok(PatchFile { source, document }),
-            Err(error) => Err(ProgramError::of_patch(alloc, source.name, &document, error)),
-        }
-    }
-
-    /// Returns whether the patch has many operations.
-    pub fn is_long(&self) -> bool {
-        match self.document.as_array() {
-            Some(operations) => operations.len() > MOST_IN_TEXT,
-            None => false,
+        match PlainPatch::of(alloc, source.value(alloc)?) {
+            Ok(patch) => Ok(PatchFile { source, patch }),
+            Err(FailedPatch { document, error }) => Err(ProgramError::of_patch(
+                alloc,
+                source.name,
+                &document,
+                error,
+            )),
         }
     }
 
     /// Returns the patch with the texts of its values.
     pub fn into_raw(self, alloc: Global) -> Result<RawPatch, ProgramError> {
-        let PatchFile { source, document } = self;
-        match raw_patch(alloc, source.text(alloc)?, document) {
+        let PatchFile { source, patch } = self;
+        let given = source.text(alloc)?;
+        match patch.with_texts(alloc, given) {
             Ok(patch) => Ok(patch),
             Err(error) => Err(ProgramError::of_error(alloc, source.name, "", error)),
         }

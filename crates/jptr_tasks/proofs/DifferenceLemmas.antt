@@ -12,10 +12,10 @@ use Rattle.jsonptr.specs.Documents.{IsDocument}
 use Rattle.jsonptr.proofs.Calling.{map_of-IsTree, map_of-finite}
 use Rattle.jsonptr.specs.Node.{NodeMap}
 use Rattle.jsonptr.specs.Json.{nodes, content}
-use Rattle.jsonptr_patch.specs.Patching.{PatchesBy, RefusesPatchBy}
+use Rattle.jsonptr_patch.specs.Patching.{PatchesBy, FailsBy}
 use Rattle.jsonptr_patch.specs.declared.comparison.Comparison.TheVariants.{Numeric}
+use Rattle.jsonptr_patch.specs.declared.failed_operation.FailedOperation.{FailedOperation}
 use Rattle.jsonptr_patch.specs.declared.operation.Operation.{Operation}
-use Rattle.jsonptr_patch.specs.declared.operation.PatchError.{PatchError}
 use Rattle.jsonptr_patch_document.specs.Document.{IsPatch, IsNoPatch}
 use Rattle.jsonptr_diff.specs.Diff.{HasValueWithin}
 use Rattle.jsonptr_patch.specs.declared.operation.Operation.TheVariants.{Add, Remove, Replace, Move, Copy, Test}
@@ -104,7 +104,7 @@ restyled Raw text out d reads h =
     unquoted text out d (as_str d) reads (subst (λ (v : Data). MatchOption (as_str v) (out ≡ text) (λ s. out ≡ s)) same h.2)
 
 -- without these four reasons, only a failed allocation is left, and that the edit is not made in place
-pub no_fault : (a : Text) (p : Data) (layout : Layout) (e : TaskError) → ((f : PatchDocumentError) → IsNoPatch p f → ⊥) → (read a ≡ None → ⊥) → ((os : List Operation) (d : Data) (f : PatchError) → IsPatch p os → read a ≡ Some d → RefusesPatchBy Numeric (nodes d) os f → ⊥) → ((os : List Operation) → IsPatch p os → IsPatchError a os edit.TooDeep → ⊥) → FailsToPatch a p layout e → ((f : AllocError) × (e ≡ Memory f)) ⊎ ((layout ≡ Kept) × (e ≡ NotInPlace))
+pub no_fault : (a : Text) (p : Data) (layout : Layout) (e : TaskError) → ((f : PatchDocumentError) → IsNoPatch p f → ⊥) → (read a ≡ None → ⊥) → ((os : List Operation) (d : Data) (f : FailedOperation) → IsPatch p os → read a ≡ Some d → FailsBy Numeric (nodes d) os f → ⊥) → ((os : List Operation) → IsPatch p os → IsPatchError a os edit.TooDeep → ⊥) → FailsToPatch a p layout e → ((f : AllocError) × (e ≡ Memory f)) ⊎ ((layout ≡ Kept) × (e ≡ NotInPlace))
 no_fault a p layout (NotPatch f) patch json refused deep h = absurd (patch f h)
 no_fault a p layout (PatchFailed f) patch json refused deep h = absurd (refused h.0 h.1 f h.2 h.3 h.4)
 no_fault a p layout TooDeep patch json refused deep h = absurd (deep h.0 h.1 h.2)

@@ -9,3 +9,4 @@ mod SameLemmas
 mod NodeLemmas
 mod OneErrorLemmas
 mod LongPatchLemmas
+mod DocumentLemmas

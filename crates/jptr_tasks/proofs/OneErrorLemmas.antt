@@ -24,10 +24,10 @@ use Rattle.jsonptr_value.specs.Nesting.{NestsWithin}
 use Rattle.jsonptr_value.proofs.LevelLemmas.{NestsWithin-depth}
 use Rattle.jsonptr_value.proofs.NestingLemmas.{NestsWithin-more}
 use Rattle.jsonptr_patch.specs.Order.{OperationHasSortedKeys}
-use Rattle.jsonptr_patch.specs.Patching.{PatchesBy, RefusesPatchBy}
+use Rattle.jsonptr_patch.specs.Patching.{PatchesBy, FailsBy}
 use Rattle.jsonptr_patch.specs.declared.comparison.Comparison.TheVariants.{Numeric}
+use Rattle.jsonptr_patch.specs.declared.failed_operation.FailedOperation.{FailedOperation}
 use Rattle.jsonptr_patch.specs.declared.operation.Operation.{Operation}
-use Rattle.jsonptr_patch.specs.declared.operation.PatchError.{PatchError}
 use Rattle.jsonptr_patch_document.specs.Document.{IsPatch, IsNoPatch}
 use Rattle.jsonptr_patch_document.specs.Same.{AreSameOperations}
 use Rattle.jsonptr_patch_document.proofs.SameLemmas.{same_effects}
@@ -236,29 +236,29 @@ module _
     (one_no : (d : Data) (e f : PatchDocumentError) → IsNoPatch d e → IsNoPatch d f → e ≡ f)
     (no_both : (d : Data) (os : List Operation) (e : PatchDocumentError) → IsPatch d os → IsNoPatch d e → ⊥)
     (keys : (d : Data) (os : List Operation) → HasSortedKeys d → IsPatch d os → All OperationHasSortedKeys os)
-    (not_both : (n m : NodeMap) (os : List Operation) (e : PatchError) → IsDocument n → PatchesBy Numeric n os m → RefusesPatchBy Numeric n os e → ⊥)
+    (not_both : (n m : NodeMap) (os : List Operation) (e : FailedOperation) → IsDocument n → PatchesBy Numeric n os m → FailsBy Numeric n os e → ⊥)
     (one_map : (n m l : NodeMap) (os : List Operation) → IsDocument n → PatchesBy Numeric n os m → PatchesBy Numeric n os l → m ≡ l)
-    (one : (n : NodeMap) (os : List Operation) (e f : PatchError) → IsDocument n → RefusesPatchBy Numeric n os e → RefusesPatchBy Numeric n os f → e ≡ f)
+    (one : (n : NodeMap) (os : List Operation) (e f : FailedOperation) → IsDocument n → FailsBy Numeric n os e → FailsBy Numeric n os f → e ≡ f)
     (text : Text) (patch : Data) (layout : Layout) (sorted : HasSortedKeys patch) where
-  abbrev Stuck : PatchError → Type 0
-  Stuck e = (os : List Operation) × (d : Data) × IsPatch patch os × (read text ≡ Some d) × RefusesPatchBy Numeric (nodes d) os e
+  abbrev Stuck : FailedOperation → Type 0
+  Stuck e = (os : List Operation) × (d : Data) × IsPatch patch os × (read text ≡ Some d) × FailsBy Numeric (nodes d) os e
 
   abbrev IsDeepPatch : Type 0
   IsDeepPatch = (os : List Operation) × IsPatch patch os × IsPatchError text os edit.TooDeep
 
-  again_refused : (os ps : List Operation) (d c : Data) (e : PatchError) → IsPatch patch os → IsPatch patch ps → read text ≡ Some d → read text ≡ Some c → RefusesPatchBy Numeric (nodes d) os e → RefusesPatchBy Numeric (nodes c) ps e
+  again_refused : (os ps : List Operation) (d c : Data) (e : FailedOperation) → IsPatch patch os → IsPatch patch ps → read text ≡ Some d → read text ≡ Some c → FailsBy Numeric (nodes d) os e → FailsBy Numeric (nodes c) ps e
   again_refused os ps d c e is also reads again h =
-      patch_refused_same (nodes c) os ps e (one_patch patch os ps is also) (subst (λ (x : Data). RefusesPatchBy Numeric (nodes x) os e) (one_read text d c reads again) h)
+      patch_refused_same (nodes c) os ps e (one_patch patch os ps is also) (subst (λ (x : Data). FailsBy Numeric (nodes x) os e) (one_read text d c reads again) h)
 
   again_patched : (os ps : List Operation) (d c : Data) (m : NodeMap) → IsPatch patch os → IsPatch patch ps → read text ≡ Some d → read text ≡ Some c → PatchesBy Numeric (nodes d) os m → PatchesBy Numeric (nodes c) ps m
   again_patched os ps d c m is also reads again h =
       same_effects Numeric (nodes c) m os ps (one_patch patch os ps is also) (subst (λ (x : Data). PatchesBy Numeric (nodes x) os m) (one_read text d c reads again) h)
 
-  stuck_deep : (e : PatchError) → Stuck e → IsDeepPatch → ⊥
+  stuck_deep : (e : FailedOperation) → Stuck e → IsDeepPatch → ⊥
   stuck_deep e h k =
       not_both (nodes k.2.0) k.2.1 k.0 e (is_document k.2.0) k.2.3 (again_refused h.0 k.0 h.1 k.2.0 e h.2 k.1 h.3 k.2.2 h.4)
 
-  stuck_patched : (e : PatchError) (ps : List Operation) (new : Text) → Stuck e → IsPatch patch ps → PatchesInText text ps new → ⊥
+  stuck_patched : (e : FailedOperation) (ps : List Operation) (new : Text) → Stuck e → IsPatch patch ps → PatchesInText text ps new → ⊥
   stuck_patched e ps new h is k =
       not_both (nodes k.0) (nodes k.1) ps e (is_document k.0) k.4 (again_refused h.0 ps h.1 k.0 e h.2 is h.3 k.2 h.4)
 
@@ -285,7 +285,7 @@ module _
   patch_json os (Memory g) going is none h = absurd (going tt)
   patch_json os f going is none h = absurd h
 
-  patch_stuck : (e : PatchError) (f : TaskError) → (StopsRun f → ⊥) → Stuck e → FailsToPatch text patch layout f → PatchFailed e ≡ f
+  patch_stuck : (e : FailedOperation) (f : TaskError) → (StopsRun f → ⊥) → Stuck e → FailsToPatch text patch layout f → PatchFailed e ≡ f
   patch_stuck e (NotPatch g) going at h = absurd (no_both patch at.0 g at.2 h)
   patch_stuck e NotJson going at h = absurd (is_json text at.1 at.3 h.1)
   patch_stuck e (PatchFailed g) going at h =
@@ -338,9 +338,9 @@ module _
     (one_no : (d : Data) (e f : PatchDocumentError) → IsNoPatch d e → IsNoPatch d f → e ≡ f)
     (no_both : (d : Data) (os : List Operation) (e : PatchDocumentError) → IsPatch d os → IsNoPatch d e → ⊥)
     (keys : (d : Data) (os : List Operation) → HasSortedKeys d → IsPatch d os → All OperationHasSortedKeys os)
-    (patched_both : (n m : NodeMap) (os : List Operation) (e : PatchError) → IsDocument n → PatchesBy Numeric n os m → RefusesPatchBy Numeric n os e → ⊥)
+    (patched_both : (n m : NodeMap) (os : List Operation) (e : FailedOperation) → IsDocument n → PatchesBy Numeric n os m → FailsBy Numeric n os e → ⊥)
     (patched_one : (n m l : NodeMap) (os : List Operation) → IsDocument n → PatchesBy Numeric n os m → PatchesBy Numeric n os l → m ≡ l)
-    (stuck_one : (n : NodeMap) (os : List Operation) (e f : PatchError) → IsDocument n → RefusesPatchBy Numeric n os e → RefusesPatchBy Numeric n os f → e ≡ f) where
+    (stuck_one : (n : NodeMap) (os : List Operation) (e f : FailedOperation) → IsDocument n → FailsBy Numeric n os e → FailsBy Numeric n os f → e ≡ f) where
   pub one_error : (task : Task) (layout : Layout) (text : Text) (e f : TaskError) → TaskHasSortedKeys task → (StopsRun e → ⊥) → (StopsRun f → ⊥) → Fails task layout text e → Fails task layout text f → e ≡ f
   one_error (Get p fallback) layout text e f sorted = get_one found_both found_one text (tokens p) fallback e f
   one_error (Set p v) layout text e f sorted = set_one made_both made_one place_one text (tokens p) (value_of_raw v) layout sorted e f

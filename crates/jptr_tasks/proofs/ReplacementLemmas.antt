@@ -1,7 +1,7 @@
 -- What a replacement leaves, step by step.
-use Rattle.std.proofs.Common.{◌≡◌, ◌⊎◌, ◌++◌, ◌↔◌, inl, inr, ⊎_elim, List, [], ◌∷◌, Bool, true, false, Result, Ok, Err, OnErr, OnOk, refl, sym, subst, arith}
+use Rattle.std.proofs.Common.{◌≡◌, ◌⊎◌, ◌++◌, ◌↔◌, inl, inr, ⊎_elim, List, [], ◌∷◌, Bool, true, false, Result, Ok, Err, OnErr, refl, sym, subst, arith}
 use Rattle.jsonptr.specs.Text.{Text}
-use Rattle.jptr_tasks.specs.Replacement.{AtEachMoment, FileReads, HasText, HasRights, IsDurable, IsGuarded, IsReplaced, IsUnchanged, Leaves, LeavesEither, LooksLast, Tries}
+use Rattle.jptr_tasks.specs.Replacement.{AtEachMoment, HasText, IsDurable, IsGuarded, IsReplaced, Leaves, LeavesEither, Tries}
 use Rattle.jptr_tasks.specs.PrivateReplacement.{IsSafe, all_calls}
 use Rattle.jptr_tasks.specs.declared.replacement.Event.{Event}
 use Rattle.jptr_tasks.specs.declared.replacement.Event.TheVariants.{Create, Write, TakeRights, Sync, Look, Rename, SyncFolder, Remove}

@@ -119,7 +119,7 @@ fails_anew text patch layout NotJson h = h
 fails_anew text patch layout (Memory f) h = tt
 fails_anew text patch layout other h = absurd h
 
-patch_fails : (text : Text) (patch : Data) (os : List Operation) (layout : Layout) (e : TaskError) → IsPatch patch os → FailsToApply text os layout e → FailsToPatch text patch layout e
+pub patch_fails : (text : Text) (patch : Data) (os : List Operation) (layout : Layout) (e : TaskError) → IsPatch patch os → FailsToApply text os layout e → FailsToPatch text patch layout e
 patch_fails text patch os layout (PatchFailed f) is h = (os, h.0, is, h.1, h.2)
 patch_fails text patch os layout TooDeep is h = (os, is, h)
 patch_fails text patch os layout NotInPlace is h = (h.0, (os, h.1.0, is, h.1.1))

@@ -6,11 +6,12 @@ use Rattle.jsonptr.specs.Text.{Text}
 use Rattle.jsonptr.specs.Json.{nodes}
 use Rattle.jsonptr.specs.Node.{NodeMap}
 use Rattle.jsonptr_patch.specs.Operating.{RefusesOperationBy, RefusesAdd, RefusesTarget, RefusesMove, RefusesCopy, RefusesTestBy}
-use Rattle.jsonptr_patch.specs.Patching.{RefusesPatchBy}
+use Rattle.jsonptr_patch.specs.Patching.{FailsBy}
 use Rattle.jsonptr_patch.specs.declared.comparison.Comparison.TheVariants.{Numeric}
+use Rattle.jsonptr_patch.specs.declared.failed_operation.FailedOperation.{FailedOperation}
+use Rattle.jsonptr_patch.specs.declared.failed_operation.PatchPointer.TheVariants as pointer
 use Rattle.jsonptr_patch.specs.declared.operation.Operation.{Operation}
 use Rattle.jsonptr_patch.specs.declared.operation.Operation.TheVariants.{Add, Remove, Replace, Move, Copy, Test}
-use Rattle.jsonptr_patch.specs.declared.operation.PatchError.{PatchError}
 use Rattle.jsonptr_patch_document.specs.Same.{IsSameOperation, AreSameOperations}
 use Rattle.jsonptr_patch_document.proofs.SameLemmas.{same_effects}
 
@@ -19,10 +20,10 @@ both : {A B : Type 0} (P : A → B → Type 0) (a b : A) (v w : B) → a ≡ b �
 both P a b v w p q h = subst (P b) q (subst (λ x. P x v) p h)
 
 -- the same operation fails with the same error
-refused_same : (n : NodeMap) (k : ℕ) (o p : Operation) (e : PatchError) → IsSameOperation o p → RefusesOperationBy Numeric n k o e → RefusesOperationBy Numeric n k p e
+refused_same : (n : NodeMap) (k : ℕ) (o p : Operation) (e : FailedOperation) → IsSameOperation o p → RefusesOperationBy Numeric n k o e → RefusesOperationBy Numeric n k p e
 refused_same n k (Add path v) (Add other w) e s h = subst (λ (ts : List Text). RefusesAdd n k ts e) s.0 h
-refused_same n k (Remove path) (Remove other) e s h = subst (λ (ts : List Text). RefusesTarget n k ts e) s h
-refused_same n k (Replace path v) (Replace other w) e s h = subst (λ (ts : List Text). RefusesTarget n k ts e) s.0 h
+refused_same n k (Remove path) (Remove other) e s h = subst (λ (ts : List Text). RefusesTarget n k pointer.Path ts e) s h
+refused_same n k (Replace path v) (Replace other w) e s h = subst (λ (ts : List Text). RefusesTarget n k pointer.Path ts e) s.0 h
 refused_same n k (Move from path) (Move source other) e s h = both (λ (ts us : List Text). RefusesMove n k ts us e) from source path other s.0 s.1 h
 refused_same n k (Copy from path) (Copy source other) e s h = both (λ (ts us : List Text). RefusesCopy n k ts us e) from source path other s.0 s.1 h
 refused_same n k (Test path v) (Test other w) e s h = both (λ (ts : List Text) (d : Data). RefusesTestBy Numeric n k ts (nodes d) e) path other (view v) (view w) s.0 s.1 h
@@ -42,7 +43,7 @@ split_same (p ∷ ps) (d ∷ done) o rest s =
     (p ∷ r.0, r.1, r.2, ap (λ (l : List Operation). p ∷ l) r.3, (s.0, r.4), r.5, ap suc r.6)
 
 -- the same operations fail with the same error
-pub patch_refused_same : (n : NodeMap) (os ps : List Operation) (e : PatchError) → AreSameOperations os ps → RefusesPatchBy Numeric n os e → RefusesPatchBy Numeric n ps e
+pub patch_refused_same : (n : NodeMap) (os ps : List Operation) (e : FailedOperation) → AreSameOperations os ps → FailsBy Numeric n os e → FailsBy Numeric n ps e
 patch_refused_same n os ps e s h =
     let r = split_same ps h.done h.fails h.rest (subst (λ (l : List Operation). AreSameOperations l ps) h.split s) in
     record {

@@ -1,7 +1,7 @@
 -- The errors of a command: how those of the calls below become them, and the exit status of each.
 use Rattle.std.specs.Prelude.{ℕ}
 use Rattle.jsonptr.specs.declared.assign.Error as assign
-use Rattle.jsonptr_patch.specs.declared.operation.PatchError.{PatchError}
+use Rattle.jsonptr_patch.specs.declared.failed_operation.FailedOperation.{FailedOperation}
 use Rattle.jsonptr_io.specs.declared.input.InputError.{InputError}
 use Rattle.jsonptr_io.specs.declared.input.InputError.TheVariants as input
 use Rattle.jsonptr_value.specs.declared.from_text.ReadError.{ReadError}
@@ -18,6 +18,8 @@ use Rattle.jsonptr_paths.specs.declared.build.LineError.{LineError}
 use Rattle.jsonptr_paths.specs.declared.build.LineError.TheVariants as line
 use Rattle.jsonptr_paths.specs.declared.build.BuildError.{BuildError}
 use Rattle.jsonptr_paths.specs.declared.build.BuildError.TheVariants as build
+use Rattle.jsonptr_relayout.specs.declared.relaid.RelayoutError.{RelayoutError}
+use Rattle.jsonptr_relayout.specs.declared.relaid.RelayoutError.TheVariants as relayout
 use Rattle.jptr_tasks.specs.declared.task_error.TaskError.{TaskError}
 use Rattle.jptr_tasks.specs.declared.task_error.TaskError.TheVariants.{NotPatch, Resolve, Assign, NotThere, PatchFailed, TooDeep, NotInPlace, NotLocated, PatchTooDeep, LineBreak, BadLine, NotUtf8, NotJson, Memory, Read, Write}
 
@@ -79,7 +81,7 @@ of_assign_error edit.TooDeep = TooDeep
 of_assign_error (edit.Memory e) = Memory e
 
 -- `of_patch_error e`: the error of the command if a patch is not applied in a text
-abbrev pub of_patch_error : EditError PatchError → TaskError
+abbrev pub of_patch_error : EditError FailedOperation → TaskError
 of_patch_error edit.NotJson = NotJson
 of_patch_error (edit.Refused e) = PatchFailed e
 of_patch_error edit.TooDeep = TooDeep
@@ -99,3 +101,9 @@ of_in_place_delete_error (in_place.Edit e) = of_read_error e
 abbrev pub of_build_error : BuildError → TaskError
 of_build_error (build.Line number e) = BadLine number e
 of_build_error (build.Memory e) = Memory e
+
+-- `of_relayout_error e`: the error of the command if a document is not laid out as a text is
+abbrev pub of_relayout_error : RelayoutError → TaskError
+of_relayout_error relayout.NotJson = NotJson
+of_relayout_error relayout.TooDeep = TooDeep
+of_relayout_error (relayout.Memory e) = Memory e

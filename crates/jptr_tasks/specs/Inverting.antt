@@ -7,7 +7,7 @@ use Rattle.jsonptr.specs.Json.{nodes, HasSortedKeys}
 use Rattle.jsonptr.specs.Node.{NodeMap}
 use Rattle.jsonptr_patch.specs.Inverse.{TakesAllBackBy}
 use Rattle.jsonptr_patch.specs.Order.{OperationHasSortedKeys}
-use Rattle.jsonptr_patch.specs.Patching.{PatchesBy, RefusesPatchBy}
+use Rattle.jsonptr_patch.specs.Patching.{PatchesBy, FailsBy}
 use Rattle.jsonptr_patch.specs.declared.comparison.Comparison.TheVariants.{Numeric}
 use Rattle.jsonptr_patch.specs.declared.operation.Operation.{Operation}
 use Rattle.jsonptr_patch_document.specs.Document.{IsPatch, IsNoPatch}
@@ -50,7 +50,7 @@ FailsToInvert text patch (NotPatch f) = IsNoPatch patch f
 FailsToInvert text patch NotJson = ((os : List Operation) × IsPatch patch os) × (read text ≡ None)
 FailsToInvert text patch (PatchFailed f) =
     (os : List Operation) × (d : Data)
-    × IsPatch patch os × (read text ≡ Some d) × RefusesPatchBy Numeric (nodes d) os f
+    × IsPatch patch os × (read text ≡ Some d) × FailsBy Numeric (nodes d) os f
 FailsToInvert text patch PatchTooDeep = HasDeepInverse text patch
 FailsToInvert text patch (Memory f) = ⊤
 FailsToInvert text patch e = ⊥

@@ -3,6 +3,7 @@ pub mod Failures
 pub mod Layouts
 pub mod Nodes
 pub mod Results
+pub mod Additions
 pub mod Differences
 pub mod Inverting
 pub mod Documents

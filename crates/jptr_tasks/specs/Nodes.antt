@@ -1,11 +1,10 @@
 -- The value that tokens identify in the text of a document: its type, its length, its keys, and what it equals.
-use Rattle.std.specs.Prelude.{◌≡◌, ◌⊎◌, ℕ, List, [], ◌∷◌, ◌++◌, map, length, Bool, IsTrue, ◌↔◌, ◌-◌, Option, Some, None, MatchOption, Vec, String, chars, codes, string_bytes, ⊤}
+use Rattle.std.specs.Prelude.{◌≡◌, ◌⊎◌, ℕ, List, [], ◌∷◌, ◌++◌, map, Bool, IsTrue, ◌↔◌, ◌-◌, Option, Some, None, MatchOption, Vec, String, string_bytes, ⊤}
 use Rattle.std.specs.declared.alloc.Global.{Global}
 use Rattle.json.specs.Json.{read_key}
 use Rattle.json.specs.Lex as lex
 use Rattle.json.specs.Token.{Token, begin_object}
-use Rattle.serde_json.specs.Data.{Data, null, boolean, number, string, array, object}
-use Rattle.serde_json.specs.Events.{items_len, members_len}
+use Rattle.serde_json.specs.Data.{Data}
 use Rattle.serde_json.specs.Read.{max_depth, read}
 use Rattle.jsonptr.specs.Text.{Text}
 use Rattle.jsonptr.specs.Json.{nodes}

@@ -1,20 +1,24 @@
 -- What is printed anew, why a text is not printed anew, and why a patch is not read or applied. Used only by private
 -- contracts.
-use Rattle.std.specs.Prelude.{◌≡◌, ◌<◌, List, Some, None, ⊤}
+use Rattle.std.specs.Prelude.{◌≡◌, ◌<◌, List, [], ◌∷◌, Some, None, ⊤, All}
 use Rattle.serde_json.specs.Data.{Data, depth}
 use Rattle.serde_json.specs.Read.{read, max_depth}
 use Rattle.jsonptr.specs.Text.{Text}
 use Rattle.jsonptr.specs.Node.{NodeMap}
-use Rattle.jsonptr.specs.Json.{nodes}
-use Rattle.jsonptr_patch.specs.Patching.{RefusesPatchBy}
+use Rattle.jsonptr.specs.Json.{nodes, HasSortedKeys}
+use Rattle.jsonptr_patch.specs.Order.{OperationHasSortedKeys}
+use Rattle.jsonptr_patch.specs.Patching.{PatchesBy, FailsBy}
 use Rattle.jsonptr_patch.specs.declared.comparison.Comparison.TheVariants.{Numeric}
 use Rattle.jsonptr_patch.specs.declared.operation.Operation.{Operation}
 use Rattle.jsonptr_patch_document.specs.Document.{IsPatch, IsNoPatch}
 use Rattle.jsonptr_patch_document.specs.Writing.{document_of}
+use Rattle.jsonptr_edit_in_text.specs.InPlace.{StaysOneLine}
 use Rattle.jsonptr_edit_in_text.specs.PatchInText.{PatchesInText, IsPatchError}
 use Rattle.jsonptr_edit_in_text.specs.declared.edited.EditError.TheVariants as edit
-use Rattle.jsonptr_relayout.specs.Relaying.{ReadsAs}
+use Rattle.jsonptr_edit_in_text.specs.declared.raw_operation.RawOperation.{RawOperation}
+use Rattle.jsonptr_edit_in_text.specs.declared.raw_value.RawValue.{RawValue}
 use Rattle.jptr_tasks.specs.Layouts.{Lays}
+use Rattle.jptr_tasks.specs.declared.raw_patch.RawPatch.{RawPatch}
 use Rattle.jptr_tasks.specs.declared.task_error.TaskError.{TaskError}
 use Rattle.jptr_tasks.specs.declared.task_error.TaskError.TheVariants.{NotPatch, PatchFailed, TooDeep, NotInPlace, PatchTooDeep, NotJson, Memory}
 use Rattle.jptr_tasks.specs.declared.layout.Layout.{Layout}
@@ -28,9 +32,25 @@ Remakes P layout out = (new : Text) × P new × Lays layout new out
 abbrev pub PatchedBy : Text → Data → Text → Type 0
 PatchedBy text patch new = (os : List Operation) × IsPatch patch os × PatchesInText text os new
 
--- `ReadsSame text new`: both texts are JSON, and are read as documents with the same map
-abbrev pub ReadsSame : Text → Text → Type 0
-ReadsSame text new = (d : Data) × (read text ≡ Some d) × ReadsAs new (nodes d)
+-- `AppliesInLayout text os layout out`: `out` is the document of `text` after the operations `os`, in this layout. In the layout
+-- `Kept` a text of one line stays one line
+abbrev pub AppliesInLayout : Text → List Operation → Layout → Text → Type 0
+AppliesInLayout text os layout out =
+    (new : Text) × PatchesInText text os new × Lays layout new out × (layout ≡ Kept → StaysOneLine text new)
+
+-- `IsAppliedTo text os e`: the operations `os` turn the document of `text` into `e`. If the keys of their values are sorted, those
+-- of `e` are
+abbrev pub IsAppliedTo : Text → List Operation → Data → Type 0
+IsAppliedTo text os e =
+    (d : Data) × (read text ≡ Some d) × PatchesBy Numeric (nodes d) os (nodes e)
+    × (All OperationHasSortedKeys os → HasSortedKeys e)
+
+-- `IsRelayoutFault text d e`: `e` is why the document `d` is not laid out as `text` is, unless an allocation failed
+abbrev pub IsRelayoutFault : Text → Data → TaskError → Type 0
+IsRelayoutFault text d NotJson = read text ≡ None
+IsRelayoutFault text d TooDeep = max_depth < depth d
+IsRelayoutFault text d (Memory f) = ⊤
+IsRelayoutFault text d e = ⊥
 
 -- `IsLayoutError text e`: `e` is why the document of `text` is not printed, unless an allocation failed
 abbrev pub IsLayoutError : Text → TaskError → Type 0
@@ -48,11 +68,15 @@ IsNotPatch patch e = ⊥
 -- `NotInPlace` they apply, but not in place
 abbrev pub FailsToApply : Text → List Operation → Layout → TaskError → Type 0
 FailsToApply text os layout NotJson = read text ≡ None
-FailsToApply text os layout (PatchFailed f) = (d : Data) × (read text ≡ Some d) × RefusesPatchBy Numeric (nodes d) os f
+FailsToApply text os layout (PatchFailed f) = (d : Data) × (read text ≡ Some d) × FailsBy Numeric (nodes d) os f
 FailsToApply text os layout TooDeep = IsPatchError text os edit.TooDeep
 FailsToApply text os layout NotInPlace = (layout ≡ Kept) × ((new : Text) × PatchesInText text os new)
 FailsToApply text os layout (Memory f) = ⊤
 FailsToApply text os layout e = ⊥
+
+-- `IsAlone o raw p`: `o` is the one operation of `p`, with the text `raw` of its value
+abbrev pub IsAlone : Operation → RawValue → RawPatch → Type 0
+IsAlone o raw p = (r : RawOperation) × (p.operations.items ≡ r ∷ []) × (r.operation ≡ o) × (r.raw ≡ Some raw)
 
 -- `IsPatchTextFault os e`: `e` is why the patch document of the operations `os` is not printed, unless an allocation
 -- failed
@@ -63,6 +87,6 @@ IsPatchTextFault os e = ⊥
 
 -- `IsApplyFault n os e`: `e` is why the operations `os` are not applied to `n`, unless an allocation failed
 abbrev pub IsApplyFault : NodeMap → List Operation → TaskError → Type 0
-IsApplyFault n os (PatchFailed f) = RefusesPatchBy Numeric n os f
+IsApplyFault n os (PatchFailed f) = FailsBy Numeric n os f
 IsApplyFault n os (Memory f) = ⊤
 IsApplyFault n os e = ⊥

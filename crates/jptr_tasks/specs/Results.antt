@@ -8,7 +8,7 @@ use Rattle.jsonptr.specs.Text.{Text}
 use Rattle.jsonptr.specs.Json.{nodes}
 use Rattle.jsonptr.specs.Pointer.{tokens}
 use Rattle.jsonptr.specs.declared.resolve.Error.{Error}
-use Rattle.jsonptr_patch.specs.Patching.{RefusesPatchBy}
+use Rattle.jsonptr_patch.specs.Patching.{FailsBy}
 use Rattle.jsonptr_patch.specs.declared.comparison.Comparison.TheVariants.{Numeric}
 use Rattle.jsonptr_patch.specs.declared.operation.Operation.{Operation}
 use Rattle.jsonptr_patch_document.specs.Document.{IsPatch, IsNoPatch}
@@ -119,7 +119,7 @@ FailsToPatch text patch layout (NotPatch f) = IsNoPatch patch f
 FailsToPatch text patch layout NotJson = ((os : List Operation) × IsPatch patch os) × (read text ≡ None)
 FailsToPatch text patch layout (PatchFailed f) =
     (os : List Operation) × (d : Data)
-    × IsPatch patch os × (read text ≡ Some d) × RefusesPatchBy Numeric (nodes d) os f
+    × IsPatch patch os × (read text ≡ Some d) × FailsBy Numeric (nodes d) os f
 FailsToPatch text patch layout TooDeep =
     (os : List Operation) × IsPatch patch os × IsPatchError text os edit.TooDeep
 FailsToPatch text patch layout NotInPlace =

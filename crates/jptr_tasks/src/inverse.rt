@@ -14,7 +14,7 @@ use crate::layout::{Layout, read_document};
 use crate::patch::operations_of;
 use crate::task_error::TaskError;
 use jsonptr::Fault;
-use jsonptr_patch::{Comparison, Operation, apply_comparing_with_inverse};
+use jsonptr_patch::{Comparison, Operation, apply_naming_pointer_with_inverse};
 use jsonptr_patch_document::laws::patch_document_law;
 use serde_json::Value;
 use std::alloc::Global;
@@ -84,7 +84,7 @@ fn apply_numerically_with_inverse(
         → HasSortedKeys (view document.old) → All OperationHasSortedKeys inverse.items) }
     ensures refused { IfErr result (IsApplyFault (nodes (view document.old)) operations.items) }
 {
-    match apply_comparing_with_inverse(alloc, document, operations, Comparison::Numeric) {
+    match apply_naming_pointer_with_inverse(alloc, document, operations, Comparison::Numeric) {
         Ok(inverse) => Ok(inverse),
         Err(Fault::Refused(error)) => Err(TaskError::PatchFailed(error)),
         Err(Fault::Memory(error)) => Err(TaskError::Memory(error)),

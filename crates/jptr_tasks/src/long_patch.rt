@@ -1,23 +1,49 @@
 //! Applying a patch of many operations to the text of a document.
-ghost use Rattle.std.specs.Prelude.{IfOk, IfErr, IfSome, string_bytes};
+ghost use Rattle.std.specs.Prelude.{◌≡◌, ◌↔◌, ◌<◌, length, IfOk, IfErr, IsTrue, string_bytes};
 ghost use Rattle.serde_json.specs.View.{view};
 ghost use Rattle.jsonptr.specs.Json.{nodes};
+ghost use Rattle.jsonptr_patch.specs.Patching.{PatchesBy};
+ghost use Rattle.jsonptr_patch.specs.Order.{OperationHasSortedKeys};
+ghost use Rattle.jsonptr_patch.specs.declared.comparison.Comparison.TheVariants.{Numeric};
 ghost use Rattle.jsonptr_relayout.specs.Relaying.{text_of_relaid, ReadsAs};
 ghost use Rattle.jsonptr_edit_in_text.specs.InPlace.{StaysOneLine};
+ghost use Rattle.jsonptr_edit_in_text.specs.PatchInText.{PatchesInText};
 ghost use Rattle.jptr_tasks.specs.Results.{PatchesInLayout, FailsToPatch};
-ghost use Rattle.jptr_tasks.specs.PrivateResults.{PatchedBy, Remakes, ReadsSame};
+ghost use Rattle.jptr_tasks.specs.PrivateResults.{Remakes, FailsToApply, AppliesInLayout, IsAppliedTo, IsRelayoutFault};
 
+use crate::failed_patch::FailedPatch;
 use crate::layout::{Layout, lay_out, read_document};
-use crate::patch::print_anew;
+use crate::plain_patch::PlainPatch;
 use crate::task_error::TaskError;
+use jsonptr::Fault;
 use jsonptr_edit_in_text::stays_one_line;
 use jsonptr_in_text::Scratch;
+use jsonptr_patch::{Comparison, Operation, apply_naming_pointer};
 use jsonptr_relayout::{Relaid, RelayoutError, relayout_with_texts};
+use jsonptr_value::discard;
 use serde_json::Value;
-use std::alloc::{AllocError, Global};
+use std::alloc::Global;
 
-/// Applies the patch document to the text, and returns the new document in this layout. `given` is the
-/// text of the patch document.
+/// The number of operations above which a patch is long: [`patch`](crate::patch::patch) reads the whole
+/// text for each operation.
+pub const MOST_IN_TEXT: usize = 16;
+
+/// Returns whether the patch of these operations is long, so that [`patch_in_layout`] is for it.
+///
+/// # Examples
+///
+/// ```rust
+/// let remove = Operation::Remove { path: PointerBuf::from_text(alloc, "/a")? };
+/// assert!(rt; !is_long(&vec![in alloc; remove]?));
+/// ```
+pub fn is_long(operations: &Vec<Operation>) -> bool
+    ensures { IsTrue result ↔ (16 < length operations.now.items) }
+{
+    operations.len() > MOST_IN_TEXT
+}
+
+/// Applies the patch to the text, and returns the new document in this layout. `given` is the text of the
+/// patch document.
 ///
 /// The operations are applied to the document that the text is, and the new document is laid out as the
 /// text is, as [`relayout_with_texts`] does it. So the time is in proportion to the text and the patch, and
@@ -30,41 +56,71 @@ use std::alloc::{AllocError, Global};
 ///
 /// # Errors
 ///
-/// Those of [`result_in_text`](crate::result::result_in_text) for `Task::Patch`.
+/// Those of [`result_in_text`](crate::result::result_in_text) for `Task::Patch`, with the patch document.
 /// [`TaskError::NotInPlace`] says that no text in the layout of the old one is found.
 ///
 /// # Examples
 ///
 /// ```rust
 /// let given = r#"[{"op": "add", "path": "/b", "value": {"z": 1.10, "y": 2}}]"#;
-/// let patch = Value::from_str(alloc, given)?;
-/// let new = patch_in_layout(alloc, r#"{ "a": 1.0 }"#, &patch, given, Layout::Kept)?;
+/// let patch = PlainPatch::of(alloc, Value::from_str(alloc, given)?).ok().ok_or("a patch")?;
+/// let new = patch_in_layout(alloc, r#"{ "a": 1.0 }"#, patch, given, Layout::Kept);
+/// let new = new.ok().ok_or("a text")?;
 /// assert_eq!(rt; new.as_str(), r#"{ "a": 1.0, "b": { "z": 1.10, "y": 2 } }"#);
 /// ```
 pub fn patch_in_layout(
     alloc: Global,
     text: &str,
-    patch: &Value,
+    patch: PlainPatch,
+    given: &str,
+    layout: Layout,
+) -> Result<String, FailedPatch>
+    ensures applied { IfOk result
+        (λ s. PatchesInLayout text.now (view patch.document) layout (string_bytes s)) }
+    ensures refused { IfErr result (λ e. (e.document ≡ patch.document)
+        × FailsToPatch text.now (view patch.document) layout e.error) }
+{
+    let PlainPatch {
+        document,
+        operations,
+    } = patch;
+    match apply_in_layout(alloc, text, operations, given, layout) {
+        Ok(new) => Ok(new),
+        Err(error) => Err(FailedPatch { document, error }),
+    }
+}
+
+/// Applies the operations to the text, and returns the new document in this layout.
+fn apply_in_layout(
+    alloc: Global,
+    text: &str,
+    operations: Vec<Operation>,
     given: &str,
     layout: Layout,
 ) -> Result<String, TaskError>
     ensures applied { IfOk result
-        (λ s. PatchesInLayout text.now (view patch.now) layout (string_bytes s)) }
-    ensures refused { IfErr result (FailsToPatch text.now (view patch.now) layout) }
+        (λ s. AppliesInLayout text.now operations.items layout (string_bytes s)) }
+    ensures refused { IfErr result (FailsToApply text.now operations.items layout) }
 {
     match layout {
-        Layout::Kept => patch_kept(alloc, text, patch, given),
-        _ => patch_laid_out(alloc, text, patch, given, layout),
+        Layout::Kept => apply_kept(alloc, text, operations, given),
+        _ => apply_laid_out(alloc, text, operations, given, layout),
     }
 }
 
-/// Applies the patch document to the text, and returns the new document in the layout of the text.
-fn patch_kept(alloc: Global, text: &str, patch: &Value, given: &str) -> Result<String, TaskError>
-    ensures applied { IfOk result (λ s. PatchedBy text.now (view patch.now) (string_bytes s)) }
+/// Applies the operations to the text, and returns the new document in the layout of the text.
+fn apply_kept(
+    alloc: Global,
+    text: &str,
+    operations: Vec<Operation>,
+    given: &str,
+) -> Result<String, TaskError>
+    ensures applied { IfOk result
+        (λ s. PatchesInText text.now operations.items (string_bytes s)) }
     ensures one_line { IfOk result (λ s. StaysOneLine text.now (string_bytes s)) }
-    ensures refused { IfErr result (FailsToPatch text.now (view patch.now) Layout.Kept) }
+    ensures refused { IfErr result (FailsToApply text.now operations.items Layout.Kept) }
 {
-    match patched(alloc, text, patch, given) {
+    match applied(alloc, text, operations, given) {
         Ok(new) => if is_kept(&new) && stays_one_line(text, new.as_str()) {
             Ok(new.into_string())
         } else {
@@ -74,76 +130,65 @@ fn patch_kept(alloc: Global, text: &str, patch: &Value, given: &str) -> Result<S
     }
 }
 
-/// Applies the patch document to the text, and returns the new document with its tokens laid out anew.
-fn patch_laid_out(
+/// Applies the operations to the text, and returns the new document with its tokens laid out anew.
+fn apply_laid_out(
     alloc: Global,
     text: &str,
-    patch: &Value,
+    operations: Vec<Operation>,
     given: &str,
     layout: Layout,
 ) -> Result<String, TaskError>
     ensures applied { IfOk result
-        (λ s. Remakes (PatchedBy text.now (view patch.now)) layout (string_bytes s)) }
-    ensures refused { IfErr result (FailsToPatch text.now (view patch.now) layout) }
+        (λ s. Remakes (PatchesInText text.now operations.items) layout (string_bytes s)) }
+    ensures refused { IfErr result (FailsToApply text.now operations.items layout) }
 {
-    match patched(alloc, text, patch, given) {
+    match applied(alloc, text, operations, given) {
         Ok(new) => lay_out(alloc, &mut Scratch::new(alloc), new.as_str(), layout),
         Err(error) => Err(error),
     }
 }
 
-/// Applies the patch document to the text, and returns the new document in the layout of the text, or
-/// printed if there is no such text.
-fn patched(alloc: Global, text: &str, patch: &Value, given: &str) -> Result<Relaid, TaskError>
-    ensures applied { IfOk result (λ new. PatchedBy text.now (view patch.now) (text_of_relaid new)) }
-    ensures refused { IfErr result (FailsToPatch text.now (view patch.now) Layout.Compact) }
+/// Applies the operations to the document that the text is, and returns the new document in the layout of
+/// the text, or printed if there is no such text.
+fn applied(
+    alloc: Global,
+    text: &str,
+    operations: Vec<Operation>,
+    given: &str,
+) -> Result<Relaid, TaskError>
+    ensures applied { IfOk result
+        (λ new. PatchesInText text.now operations.items (text_of_relaid new)) }
+    ensures refused { IfErr result (FailsToApply text.now operations.items Layout.Compact) }
 {
-    let printed = print_anew(alloc, text, patch)?;
-    let relaid = relaid(alloc, text, printed.as_str(), given)?;
-    match relaid {
-        Some(new) => Ok(Relaid::Kept(new)),
-        None => Ok(Relaid::Rewritten(printed)),
+    let document = document_after(alloc, text, operations)?;
+    relaid(alloc, text, document, given)
+}
+
+/// Reads the document that the text is, and applies the operations to it.
+fn document_after(alloc: Global, text: &str, operations: Vec<Operation>) -> Result<Value, TaskError>
+    ensures applied { IfOk result (λ v. IsAppliedTo text.now operations.items (view v)) }
+    ensures refused { IfErr result (FailsToApply text.now operations.items Layout.Compact) }
+{
+    let mut document = read_document(alloc, text)?;
+    match apply_naming_pointer(alloc, &mut document, operations, Comparison::Numeric) {
+        Ok(()) => Ok(document),
+        Err(Fault::Refused(failed)) => Err(TaskError::PatchFailed(failed)),
+        Err(Fault::Memory(error)) => Err(TaskError::Memory(error)),
     }
 }
 
-/// Returns the printed document in the layout of the text, or `None` if there is no such text.
-///
-/// # Errors
-///
-/// [`AllocError`] if an allocation fails.
-fn relaid(
-    alloc: Global,
-    text: &str,
-    printed: &str,
-    given: &str,
-) -> Result<Option<String>, AllocError>
-    ensures { IfOk result (λ new. IfSome new (λ s. ReadsSame printed.now (string_bytes s))) }
+/// Returns the document in the layout of the text, or printed if there is no such text, and drops it.
+fn relaid(alloc: Global, text: &str, document: Value, given: &str) -> Result<Relaid, TaskError>
+    ensures reads { IfOk result (λ new. ReadsAs (text_of_relaid new) (nodes (view document))) }
+    ensures refused { IfErr result (IsRelayoutFault text.now (view document)) }
 {
-    match read_document(alloc, printed) {
-        Ok(document) => relaid_document(alloc, text, &document, given),
-        Err(TaskError::Memory(error)) => Err(error),
-        Err(_) => Ok(None),
-    }
-}
-
-/// Returns the document in the layout of the text, or `None` if there is no such text.
-///
-/// # Errors
-///
-/// [`AllocError`] if an allocation fails.
-fn relaid_document(
-    alloc: Global,
-    text: &str,
-    document: &Value,
-    given: &str,
-) -> Result<Option<String>, AllocError>
-    ensures { IfOk result (λ new. IfSome new (λ s. ReadsAs (string_bytes s) (nodes (view document.now)))) }
-{
-    match relayout_with_texts(alloc, text, document, &[given, text]) {
-        Ok(Relaid::Kept(new)) => Ok(Some(new)),
-        Ok(Relaid::Rewritten(_)) => Ok(None),
-        Err(RelayoutError::Memory(error)) => Err(error),
-        Err(_) => Ok(None),
+    match relayout_with_texts(alloc, text, &document, &[given, text]) {
+        Ok(new) => Ok(new),
+        Err(error) => {
+            // It may nest deep.
+            discard(document);
+            Err(TaskError::from(error))
+        }
     }
 }
 

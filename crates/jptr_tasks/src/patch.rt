@@ -73,7 +73,7 @@ pub fn raw_patch(alloc: Global, given: &str, document: Value) -> Result<RawPatch
 
 /// Returns the patch of the document, which has these operations, with the texts of their values in
 /// `given`, the text of the document.
-fn with_texts(
+pub(crate) fn with_texts(
     alloc: Global,
     given: &str,
     document: Value,
@@ -206,7 +206,7 @@ fn patched(
 
 /// Reads the document of the text, applies the patch document, and prints it. No error is
 /// [`TaskError::NotInPlace`].
-pub(crate) fn print_anew(alloc: Global, text: &str, patch: &Value) -> Result<String, TaskError>
+fn print_anew(alloc: Global, text: &str, patch: &Value) -> Result<String, TaskError>
     ensures applied { IfOk result (λ s. PatchedBy text.now (view patch.now) (string_bytes s)) }
     ensures refused { IfErr result (FailsToPatch text.now (view patch.now) Layout.Compact) }
 {

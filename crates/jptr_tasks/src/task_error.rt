@@ -1,6 +1,6 @@
 //! The errors of a command, and its exit status.
 ghost use Rattle.std.specs.Prelude.{◌≡◌};
-ghost use Rattle.jptr_tasks.specs.Failures.{of_read_error, of_in_text_error, of_locate_error, of_assign_error, of_patch_error, of_in_place_assign_error, of_in_place_delete_error, of_build_error, of_input_error, status_of_task, status_of_line};
+ghost use Rattle.jptr_tasks.specs.Failures.{of_read_error, of_in_text_error, of_locate_error, of_assign_error, of_patch_error, of_in_place_assign_error, of_in_place_delete_error, of_build_error, of_input_error, of_relayout_error, status_of_task, status_of_line};
 ghost use Rattle.jptr_tasks.specs.declared.task_error.TaskError.TheVariants.{Memory, Write};
 
 use crate::exit_status::{BAD_INPUT, FILE, MEMORY, NO, NOT_MADE};
@@ -9,9 +9,10 @@ use jsonptr_edit_in_text::{EditError, InPlaceError, LocateError};
 use jsonptr_in_text::InTextError;
 use jsonptr_io::input::InputError;
 use jsonptr_io::write::WriteError;
-use jsonptr_patch::PatchError;
+use jsonptr_patch::FailedOperation;
 use jsonptr_patch_document::PatchDocumentError;
 use jsonptr_paths::build::{BuildError, LineError};
+use jsonptr_relayout::RelayoutError;
 use jsonptr_value::{MAX_DEPTH, ReadError};
 use std::alloc::AllocError;
 use thiserror::Error;
@@ -31,9 +32,9 @@ pub enum TaskError {
     /// The pointer of the value to delete does not resolve.
     #[error("delete failed: json pointer does not resolve")]
     NotThere,
-    /// An operation of the patch fails.
+    /// An operation of the patch fails. The pointer at fault comes with the error.
     #[error(transparent)]
-    PatchFailed(PatchError),
+    PatchFailed(FailedOperation),
     /// The new document nests deeper than 127.
     #[error("document would nest deeper than {}", MAX_DEPTH)]
     TooDeep,
@@ -188,10 +189,10 @@ impl From<EditError<assign::Error>> for TaskError {
     }
 }
 
-impl From<EditError<PatchError>> for TaskError {
+impl From<EditError<FailedOperation>> for TaskError {
     ghost from_gives = { λ error task_error. task_error ≡ of_patch_error error };
 
-    fn from(error: EditError<PatchError>) -> TaskError {
+    fn from(error: EditError<FailedOperation>) -> TaskError {
         match error {
             EditError::NotJson => TaskError::NotJson,
             EditError::Refused(error) => TaskError::PatchFailed(error),
@@ -219,6 +220,18 @@ impl From<InPlaceError<ReadError>> for TaskError {
         match error {
             InPlaceError::NotInPlace => TaskError::NotInPlace,
             InPlaceError::Edit(error) => TaskError::from(error),
+        }
+    }
+}
+
+impl From<RelayoutError> for TaskError {
+    ghost from_gives = { λ error task_error. task_error ≡ of_relayout_error error };
+
+    fn from(error: RelayoutError) -> TaskError {
+        match error {
+            RelayoutError::NotJson => TaskError::NotJson,
+            RelayoutError::TooDeep => TaskError::TooDeep,
+            RelayoutError::Memory(error) => TaskError::Memory(error),
         }
     }
 }

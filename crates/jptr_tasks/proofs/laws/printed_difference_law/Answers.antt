@@ -8,7 +8,7 @@ use Rattle.jsonptr.specs.Node.{NodeMap}
 use Rattle.jsonptr_value.specs.Nesting.{NestsWithin}
 use Rattle.jsonptr_value.proofs.LevelLemmas.{NestsWithin-depth}
 use Rattle.jsonptr_value.proofs.NestingLemmas.{NestsWithin-more}
-use Rattle.jsonptr_patch.specs.Patching.{Patches, PatchesBy, RefusesPatchBy}
+use Rattle.jsonptr_patch.specs.Patching.{Patches, PatchesBy, FailsBy}
 use Rattle.jsonptr_patch.specs.declared.comparison.Comparison.TheVariants.{Numeric}
 use Rattle.jsonptr_patch.specs.declared.operation.Operation.{Operation}
 use Rattle.jsonptr_patch_document.specs.Document.{IsPatch}
@@ -46,7 +46,7 @@ returns-clause-never_refused c a b n m p style layout d e reads_a reads_b diff r
     no_fault a p layout e
     (λ f none. c.patch_document_law.ensures.not_both p os f patch none)
     (λ none. no_read a n reads_a none)
-    (λ us d1 f same reads refused. c.comparing_patch_law.ensures.not_both Numeric (nodes n) (nodes m) us f (is_document n) (c.test_comparison_law.ensures.patches (nodes n) (nodes m) us (turns us same)) (subst (λ (q : Data). RefusesPatchBy Numeric (nodes q) us f) (one_read a d1 n reads reads_a) refused))
+    (λ us d1 f same reads refused. c.comparing_patch_law.ensures.failure_not_both Numeric (nodes n) (nodes m) us f (is_document n) (c.test_comparison_law.ensures.patches (nodes n) (nodes m) us (turns us same)) (subst (λ (q : Data). FailsBy Numeric (nodes q) us f) (one_read a d1 n reads reads_a) refused))
     (λ us same fault.
     let first : fault.0 ≡ n = one_read a fault.0 n fault.2 reads_a in
     let made : PatchesBy Numeric (nodes n) us fault.1 = subst (λ (q : Data). PatchesBy Numeric (nodes q) us fault.1) first fault.3 in

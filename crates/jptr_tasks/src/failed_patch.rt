@@ -1,0 +1,13 @@
+//! The error of a call that takes a patch document.
+
+use crate::task_error::TaskError;
+use serde_json::Value;
+
+/// The error of a call that takes a patch document, and the document, which the call returns.
+#[derive(Debug, Drop)]
+pub struct FailedPatch {
+    /// The document.
+    pub document: Value,
+    /// The error.
+    pub error: TaskError,
+}
