@@ -17,7 +17,7 @@ use jsonptr_patch::laws::patch::comparing_patch_law;
 use jsonptr_patch_document::laws::patch_document_law;
 
 /// States that a task has at most one error on a text, with all its fields. So an operation of a patch that
-/// fails has one pointer at fault.
+/// fails has at most one pointer at fault.
 ///
 /// This holds for a text (`text`), for bytes (`bytes`) and for a line of an input (`line`). A failed
 /// allocation is left out, since it can come with every input. If a task has a result, it has no other
