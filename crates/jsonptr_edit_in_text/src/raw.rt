@@ -25,7 +25,7 @@ impl RawValue {
     /// Reads a JSON text.
     ///
     /// Its tokens stay as they are written, with the escapes of its strings. Only the white space
-    /// between them goes. Reads the text twice.
+    /// between them goes. Reads the text twice, and once more for escapes that would not be printed.
     ///
     /// # Errors
     ///

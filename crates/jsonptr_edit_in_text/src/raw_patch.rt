@@ -29,7 +29,8 @@ use std::alloc::{AllocError, Global};
 /// as exactly the value of the operation. No patch document is known with a text that is not found.
 ///
 /// Takes time linear in the text. Reads the text once, and then each value, which is also printed. A
-/// value whose text is not the one that is printed, as `1.10`, is read and printed once more.
+/// value whose text is not the one that is printed, as `1.10`, is read and printed once more. For
+/// escapes that would not be printed it is read once more.
 ///
 /// # Errors
 ///
