@@ -4,7 +4,6 @@ use crate::program_error::ProgramError;
 use jptr_tasks::document::text_result;
 use jptr_tasks::exit_status::NOT_MADE;
 use jptr_tasks::layout::Layout;
-use jptr_tasks::raw_patch::RawPatch;
 use jptr_tasks::task::Task;
 use jptr_tasks::task_error::TaskError;
 use jsonptr::{Fault, Pointer};
@@ -13,6 +12,7 @@ use jsonptr_edit_in_text::Buffers;
 use jsonptr_edit_with_comments::{
     WithCommentsError, assign_raw_with_comments, delete_with_comments, try_apply_raw_with_comments,
 };
+use jsonptr_text_value::PatchText;
 use memchr::memmem;
 use std::alloc::Global;
 use std::borrow::CowStr;
@@ -96,7 +96,7 @@ fn patched(
     text: &str,
     bare: &str,
     task: &Task<'_>,
-    patch: &RawPatch,
+    patch: &PatchText,
 ) -> Result<String, TaskError> {
     let mut buffers = Buffers::new(alloc);
     let operations = patch.operations.as_slice();

@@ -10,9 +10,9 @@ use crate::written::Written;
 use clap::ArgMatches;
 use jptr_tasks::exit_status::USAGE;
 use jptr_tasks::inverse::inverse_of;
-use jptr_tasks::raw_patch::RawPatch;
 use jptr_tasks::task::Task;
 use jptr_tasks::task_error::TaskError;
+use jsonptr_text_value::PatchText;
 use std::alloc::Global;
 use std::fs;
 use std::os::unix::fs::MetadataExt;
@@ -21,7 +21,7 @@ use std::os::unix::fs::MetadataExt;
 #[derive(Drop)]
 struct Patching<'a> {
     /// The patch.
-    patch: RawPatch,
+    patch: PatchText,
     /// How the new document and the inverse are printed.
     style: OutputStyle,
     /// The name of the file for the inverse.
@@ -42,7 +42,7 @@ struct Texts {
 pub fn patch_with_inverse(
     rt: &HostRuntime,
     matches: &ArgMatches<'_>,
-    patch: RawPatch,
+    patch: PatchText,
     undo: &str,
 ) -> Result<u8, ProgramError> {
     check_name(rt, undo, matches.get_str("FILE"))?;

@@ -6,14 +6,12 @@ use crate::source::Source;
 use crate::style::{OutputStyle, indented, style_of};
 use crate::task::{checked, on_source};
 use clap::ArgMatches;
-use jptr_tasks::failed_patch::FailedPatch;
 use jptr_tasks::layout::Layout;
 use jptr_tasks::long_patch::patch_in_layout;
-use jptr_tasks::patch::raw_patch;
-use jptr_tasks::raw_patch::RawPatch;
 use jptr_tasks::task::Task;
 use jptr_tasks::task_error::TaskError;
 use jsonptr_numbers::find_lost;
+use jsonptr_text_value::{FailedPatch, PatchText};
 use serde_json::Value;
 use simdutf8::basic::from_utf8;
 use std::alloc::{AllocError, Global};
@@ -66,7 +64,7 @@ fn new_text(
     source: &Source<'_>,
     patch: PatchFile<'_>,
     style: OutputStyle,
-) -> Result<Result<String, RawPatch>, ProgramError> {
+) -> Result<Result<String, PatchText>, ProgramError> {
     let PatchFile {
         source: file,
         patch,
@@ -103,10 +101,13 @@ fn raw_patch_in(
     alloc: Global,
     file: &Source<'_>,
     document: Value,
-) -> Result<RawPatch, ProgramError> {
-    match raw_patch(alloc, file.text(alloc)?, document) {
+) -> Result<PatchText, ProgramError> {
+    match PatchText::of(alloc, file.text(alloc)?, document) {
         Ok(patch) => Ok(patch),
-        Err(error) => Err(ProgramError::of_error(alloc, file.name, "", error)),
+        Err(error) => {
+            let error = TaskError::from(error);
+            Err(ProgramError::of_error(alloc, file.name, "", error))
+        }
     }
 }
 
@@ -114,7 +115,7 @@ fn raw_patch_in(
 fn one_by_one(
     rt: &HostRuntime,
     source: &Source<'_>,
-    patch: RawPatch,
+    patch: PatchText,
     style: OutputStyle,
     is_check: bool,
 ) -> Result<u8, ProgramError> {

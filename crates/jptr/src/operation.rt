@@ -10,13 +10,13 @@ use clap::ArgMatches;
 use jptr_tasks::exit_status::{NOT_MADE, USAGE};
 use jptr_tasks::layout::Layout;
 use jptr_tasks::node::{length_in_text, type_in_text};
-use jptr_tasks::raw_patch::RawPatch;
 use jptr_tasks::task::Task;
 use jptr_tasks::task_error::TaskError;
 use jsonptr::{Pointer, PointerBuf, Token};
 use jsonptr_edit_in_text::RawValue;
 use jsonptr_in_text::exists_in_text;
 use jsonptr_patch::{FailedOperation, Operation, PatchError, PatchPointer, is_proper_prefix};
+use jsonptr_text_value::PatchText;
 use jsonptr_value::{NodeType, if_json};
 use std::alloc::{AllocError, Global};
 use std::borrow::CowStr;
@@ -68,10 +68,13 @@ pub fn insert(rt: &HostRuntime, matches: &ArgMatches<'_>) -> Result<u8, ProgramE
 }
 
 /// Returns the patch that adds the value at the pointer.
-fn addition(alloc: Global, path: Pointer<'_>, value: RawValue) -> Result<RawPatch, ProgramError> {
-    match RawPatch::of_addition(alloc, path, value) {
+fn addition(alloc: Global, path: Pointer<'_>, value: RawValue) -> Result<PatchText, ProgramError> {
+    match PatchText::from_addition(alloc, path, value) {
         Ok(patch) => Ok(patch),
-        Err(error) => Err(ProgramError::of_error(alloc, "JSON", "", error)),
+        Err(error) => {
+            let error = TaskError::from(error);
+            Err(ProgramError::of_error(alloc, "JSON", "", error))
+        }
     }
 }
 
@@ -115,7 +118,7 @@ fn transfer_of<'a>(
             path: new,
         }
     };
-    let patch = RawPatch::of_operations(alloc, vec![in alloc; operation]?)?;
+    let patch = PatchText::from_operations(alloc, vec![in alloc; operation]?)?;
     Ok(SingleOperation {
         task: Task::Patch(patch),
         from: Some(from),
@@ -207,7 +210,7 @@ fn only_child_patch(
     alloc: Global,
     source: &Source<'_>,
     operation: &SingleOperation<'_>,
-) -> Result<Option<RawPatch>, ProgramError> {
+) -> Result<Option<PatchText>, ProgramError> {
     let Some(from) = operation.from else {
         return Ok(None);
     };
@@ -221,7 +224,7 @@ fn only_child_patch(
     let remove = Operation::Remove {
         path: from.to_buf(alloc)?,
     };
-    let patch = RawPatch::of_operations(alloc, vec![in alloc; copy, remove]?)?;
+    let patch = PatchText::from_operations(alloc, vec![in alloc; copy, remove]?)?;
     Ok(Some(patch))
 }
 

@@ -2,9 +2,8 @@
 
 use crate::program_error::ProgramError;
 use crate::source::Source;
-use jptr_tasks::failed_patch::FailedPatch;
-use jptr_tasks::plain_patch::PlainPatch;
-use jptr_tasks::raw_patch::RawPatch;
+use jptr_tasks::task_error::TaskError;
+use jsonptr_text_value::{FailedPatch, PatchText, PlainPatch};
 use std::alloc::Global;
 
 /// A patch document.
@@ -27,18 +26,21 @@ impl<'a> PatchFile<'a> {
                 alloc,
                 source.name,
                 &document,
-                error,
+                TaskError::from(error),
             )),
         }
     }
 
     /// Returns the patch with the texts of its values.
-    pub fn into_raw(self, alloc: Global) -> Result<RawPatch, ProgramError> {
+    pub fn into_raw(self, alloc: Global) -> Result<PatchText, ProgramError> {
         let PatchFile { source, patch } = self;
         let given = source.text(alloc)?;
         match patch.with_texts(alloc, given) {
             Ok(patch) => Ok(patch),
-            Err(error) => Err(ProgramError::of_error(alloc, source.name, "", error)),
+            Err(error) => {
+                let error = TaskError::from(error);
+                Err(ProgramError::of_error(alloc, source.name, "", error))
+            }
         }
     }
 }

@@ -32,7 +32,7 @@ use Rattle.jsonptr_in_text.specs.declared.format.Format.TheVariants as format
 use Rattle.jsonptr_value.specs.JsonText.{IsCompact}
 use Rattle.jptr_tasks.specs.Layouts.{ShowsInLayout, Lays, ReadsBack}
 use Rattle.jptr_tasks.specs.Results.{FailsToPatch}
-use Rattle.jptr_tasks.specs.declared.difference.PatchText.{PatchText}
+use Rattle.jptr_tasks.specs.declared.difference.PrintedPatch.{PrintedPatch}
 use Rattle.jptr_tasks.specs.declared.task_error.TaskError.{TaskError}
 use Rattle.jptr_tasks.specs.declared.task_error.TaskError.TheVariants.{NotPatch, PatchFailed, TooDeep, NotInPlace, PatchTooDeep, NotJson, Memory}
 use Rattle.jptr_tasks.specs.declared.layout.Layout.{Layout}
@@ -134,7 +134,7 @@ printed SortedPretty text out d reads other h = restyled SortedPretty text out d
 printed Raw text out d reads other h = absurd (other refl)
 
 -- the inverse of a patch turns the one document that the patch makes into the one before
-pub inverse_undoes : (a : Text) (d m patch : Data) (style : Layout) (u : PatchText) → ((ps : List Operation) (l : NodeMap) → IsPatch patch ps → PatchesBy Numeric (nodes d) ps l → l ≡ nodes m) → read a ≡ Some d → IsInverse a patch style u → IsDifference (nodes m) (nodes d) style u
+pub inverse_undoes : (a : Text) (d m patch : Data) (style : Layout) (u : PrintedPatch) → ((ps : List Operation) (l : NodeMap) → IsPatch patch ps → PatchesBy Numeric (nodes d) ps l → l ≡ nodes m) → read a ≡ Some d → IsInverse a patch style u → IsDifference (nodes m) (nodes d) style u
 inverse_undoes a d m patch style u one reads inverse =
     let same : inverse.0 ≡ d = one_read a inverse.0 d inverse.3 reads in
     let again : PatchesBy Numeric (nodes d) inverse.1 inverse.2 = subst (λ (q : Data). PatchesBy Numeric (nodes q) inverse.1 inverse.2) same inverse.5 in

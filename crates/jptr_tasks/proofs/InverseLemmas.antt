@@ -19,7 +19,7 @@ use Rattle.jsonptr_patch_document.specs.Same.{AreSameOperations}
 use Rattle.jsonptr_patch_document.specs.Writing.{document_of}
 use Rattle.jptr_tasks.proofs.DifferenceLemmas.{one_read, is_document}
 use Rattle.jptr_tasks.specs.Inverting.{TakesPatchBack, HasDeepInverse, FailsToInvert}
-use Rattle.jptr_tasks.specs.declared.difference.PatchText.{PatchText}
+use Rattle.jptr_tasks.specs.declared.difference.PrintedPatch.{PrintedPatch}
 use Rattle.jptr_tasks.specs.PrivateResults.{IsLayoutError, IsNotPatch, IsPatchTextFault, IsApplyFault}
 use Rattle.jptr_tasks.specs.declared.task_error.TaskError.{TaskError}
 use Rattle.jptr_tasks.specs.declared.task_error.TaskError.TheVariants.{NotPatch, PatchFailed, PatchTooDeep, NotJson, Memory}
@@ -49,7 +49,7 @@ not_printed text p d os back (Memory f) is reads undone sorted values h = tt
 not_printed text p d os back other is reads undone sorted values h = absurd h
 
 -- and it is not both printed and too deep
-pub not_too_deep : ((by : Comparison) (n : NodeMap) (os back others : List Operation) (k : ℕ) → IsDocument n → TakesAllBackBy by n os back → TakesAllBackBy by n os others → All OperationHasSortedKeys others → depth (document_of back) ≤ k + 2 → depth (document_of others) ≤ k + 2) → ((d : Data) (os ps : List Operation) → IsPatch d os → IsPatch d ps → AreSameOperations os ps) → ((by : Comparison) (n : NodeMap) (os ps back : List Operation) → AreSameOperations os ps → TakesAllBackBy by n os back → TakesAllBackBy by n ps back) → (text : Text) (p : Data) (u : PatchText) → HasSortedKeys p → TakesPatchBack text p u → HasDeepInverse text p → ⊥
+pub not_too_deep : ((by : Comparison) (n : NodeMap) (os back others : List Operation) (k : ℕ) → IsDocument n → TakesAllBackBy by n os back → TakesAllBackBy by n os others → All OperationHasSortedKeys others → depth (document_of back) ≤ k + 2 → depth (document_of others) ≤ k + 2) → ((d : Data) (os ps : List Operation) → IsPatch d os → IsPatch d ps → AreSameOperations os ps) → ((by : Comparison) (n : NodeMap) (os ps back : List Operation) → AreSameOperations os ps → TakesAllBackBy by n os back → TakesAllBackBy by n ps back) → (text : Text) (p : Data) (u : PrintedPatch) → HasSortedKeys p → TakesPatchBack text p u → HasDeepInverse text p → ⊥
 not_too_deep same one again text p u sorted h k =
     let document : h.0 ≡ k.0 = one_read text h.0 k.0 h.3 k.3 in
     let first : TakesAllBackBy Numeric (nodes k.0) h.1 h.2 = subst (λ (x : Data). TakesAllBackBy Numeric (nodes x) h.1 h.2) document h.5 in

@@ -33,7 +33,7 @@ use Rattle.jsonptr_patch_document.specs.Same.{AreSameOperations}
 use Rattle.jsonptr_patch_document.proofs.SameLemmas.{same_effects}
 use Rattle.jsonptr_patch_document.specs.declared.error.PatchDocumentError.{PatchDocumentError}
 use Rattle.jsonptr_in_text.specs.InText.{FindsInText, RefusesInText}
-use Rattle.jsonptr_edit_in_text.specs.Carrying.{value_of_raw}
+use Rattle.jsonptr_text_value.specs.Raw.{value_of_raw}
 use Rattle.jsonptr_edit_in_text.specs.EditInText.{AssignsInText, DeletesInText, IsAssignError, LacksInText}
 use Rattle.jsonptr_edit_in_text.specs.PatchInText.{PatchesInText, IsPatchError}
 use Rattle.jsonptr_edit_in_text.specs.declared.edited.EditError.TheVariants as edit

@@ -28,10 +28,12 @@ use Rattle.jsonptr_paths.proofs.PlainLemmas.{plain_printed}
 use Rattle.jsonptr.specs.declared.assign.Error as assign
 use Rattle.jsonptr_patch.specs.declared.operation.Operation.{Operation}
 use Rattle.jsonptr_patch_document.specs.Document.{IsPatch}
-use Rattle.jsonptr_edit_in_text.specs.Carrying.{value_of_raw, Carries}
+use Rattle.jsonptr_text_value.specs.Raw.{value_of_raw}
+use Rattle.jsonptr_edit_in_text.specs.Carrying.{Carries}
 use Rattle.jsonptr_edit_in_text.specs.PatchInText.{PatchesInText}
-use Rattle.jsonptr_edit_in_text.specs.RawPatching.{operations_in, RawPatchBytes}
-use Rattle.jsonptr_edit_in_text.specs.declared.raw_value.RawValue.{RawValue}
+use Rattle.jsonptr_text_value.specs.Operations.{operations_in}
+use Rattle.jsonptr_edit_in_text.specs.RawPatching.{RawPatchBytes}
+use Rattle.jsonptr_text_value.specs.declared.raw_value.RawValue.{RawValue}
 use Rattle.jsonptr_edit_in_text.proofs.RawLemmas.{patch_bytes}
 use Rattle.jsonptr_value.specs.JsonText.{IsCompact}
 use Rattle.jptr_tasks.specs.Layouts.{Lays, CanBreak}
@@ -45,7 +47,7 @@ use Rattle.jptr_tasks.specs.declared.task_error.TaskError.TheVariants.{NotPatch,
 use Rattle.jptr_tasks.specs.declared.layout.Layout.{Layout}
 use Rattle.jptr_tasks.specs.declared.layout.Layout.TheVariants.{Kept, Compact, Pretty, Sorted, SortedPretty, Raw}
 use Rattle.jptr_tasks.specs.declared.line.LineTask.{LineTask}
-use Rattle.jptr_tasks.specs.declared.raw_patch.RawPatch.{RawPatch}
+use Rattle.jsonptr_text_value.specs.declared.patch_text.PatchText.{PatchText}
 use Rattle.jptr_tasks.specs.declared.task.Task.{Task}
 use Rattle.jptr_tasks.specs.declared.task.Task.TheVariants.{Get, Set, Delete, Patch}
 
@@ -55,7 +57,7 @@ pub set_kept : (text : Text) (ts : List Text) (raw : RawValue) (out : Text)
     → AssignsInText text ts (nodes (value_of_raw raw)) out → AssignsBytes text ts (value_of_raw raw) out → Carries (string_bytes raw.printed.flat) out → StaysOneLine text out → Sets text ts raw Kept out
 set_kept text ts raw out meaning bytes carries line = (out, meaning, refl, λ e. (bytes, carries, line))
 
-pub patch_kept : (text : Text) (p : RawPatch) (r : Result (String Global) TaskError)
+pub patch_kept : (text : Text) (p : PatchText) (r : Result (String Global) TaskError)
     → IfOk r (λ s. PatchesInText text (operations_in p.operations.items) (string_bytes s)) → IfOk r (λ s. RawPatchBytes text p.operations.items (string_bytes s)) → IfOk r (λ s. StaysOneLine text (string_bytes s)) → IfOk r (λ s. PatchesRawInLayout text p Kept (string_bytes s))
 patch_kept text p (Ok s) meaning bytes line = ((operations_in p.operations.items, string_bytes s, p.is_patch, meaning, refl, λ e. (patch_bytes text (string_bytes s) p.operations.items bytes, line)), λ e. bytes)
 patch_kept text p (Err f) meaning bytes line = tt
@@ -77,7 +79,7 @@ pub delete_anew : (text : Text) (ts : List Text) (layout : Layout) (r : Result (
 delete_anew text ts layout (Ok s) other h = (h.0, h.1, h.2, λ e. absurd (other e))
 delete_anew text ts layout (Err f) other h = tt
 
-pub patch_anew : (text : Text) (p : RawPatch) (layout : Layout) (r : Result (String Global) TaskError)
+pub patch_anew : (text : Text) (p : PatchText) (layout : Layout) (r : Result (String Global) TaskError)
     → (layout ≡ Kept → ⊥) → IfOk r (λ s. Remakes (PatchedBy text (view p.document)) layout (string_bytes s)) → IfOk r (λ s. PatchesRawInLayout text p layout (string_bytes s))
 patch_anew text p layout (Ok s) other h = ((h.1.0, h.0, h.1.1, h.1.2, h.2, λ e. absurd (other e)), λ e. absurd (other e))
 patch_anew text p layout (Err f) other h = tt

@@ -14,6 +14,8 @@ use Rattle.jsonptr_edit_in_text.specs.declared.edited.EditError.{EditError}
 use Rattle.jsonptr_edit_in_text.specs.declared.edited.EditError.TheVariants as edit
 use Rattle.jsonptr_edit_in_text.specs.declared.in_place.InPlaceError.{InPlaceError}
 use Rattle.jsonptr_edit_in_text.specs.declared.in_place.InPlaceError.TheVariants as in_place
+use Rattle.jsonptr_text_value.specs.declared.patch_text_error.PatchTextError.{PatchTextError}
+use Rattle.jsonptr_text_value.specs.declared.patch_text_error.PatchTextError.TheVariants as patch_text
 use Rattle.jsonptr_paths.specs.declared.build.LineError.{LineError}
 use Rattle.jsonptr_paths.specs.declared.build.LineError.TheVariants as line
 use Rattle.jsonptr_paths.specs.declared.build.BuildError.{BuildError}
@@ -86,6 +88,13 @@ of_patch_error edit.NotJson = NotJson
 of_patch_error (edit.Refused e) = PatchFailed e
 of_patch_error edit.TooDeep = TooDeep
 of_patch_error (edit.Memory e) = Memory e
+
+-- `of_patch_text_error e`: the error of the command if a patch document is not read or not made
+abbrev pub of_patch_text_error : PatchTextError → TaskError
+of_patch_text_error (patch_text.NotPatch e) = NotPatch e
+of_patch_text_error patch_text.NotLocated = NotLocated
+of_patch_text_error patch_text.TooDeep = PatchTooDeep
+of_patch_text_error (patch_text.Memory e) = Memory e
 
 -- `of_in_place_assign_error e`, `of_in_place_delete_error e`: the same of edits that are made in place
 -- or not at all

@@ -13,14 +13,14 @@ use Rattle.jsonptr_patch.specs.declared.operation.Operation.{Operation}
 use Rattle.jsonptr_patch_document.specs.Document.{IsPatch, IsNoPatch}
 use Rattle.jsonptr_patch_document.specs.Writing.{document_of}
 use Rattle.jptr_tasks.specs.Differences.{IsDifference}
-use Rattle.jptr_tasks.specs.declared.difference.PatchText.{PatchText}
+use Rattle.jptr_tasks.specs.declared.difference.PrintedPatch.{PrintedPatch}
 use Rattle.jptr_tasks.specs.declared.task_error.TaskError.{TaskError}
 use Rattle.jptr_tasks.specs.declared.task_error.TaskError.TheVariants.{NotPatch, PatchFailed, PatchTooDeep, NotJson, Memory}
 use Rattle.jptr_tasks.specs.declared.layout.Layout.{Layout}
 
 -- `IsInverse text patch layout u`: `u` turns the document of `text` after the operations that the document `patch` is into
 -- the document of `text`
-abbrev pub IsInverse : Text → Data → Layout → PatchText → Type 0
+abbrev pub IsInverse : Text → Data → Layout → PrintedPatch → Type 0
 IsInverse text patch layout u =
     (d : Data) × (os : List Operation) × (m : NodeMap)
     × (read text ≡ Some d) × IsPatch patch os × PatchesBy Numeric (nodes d) os m
@@ -28,7 +28,7 @@ IsInverse text patch layout u =
 
 -- `TakesPatchBack text patch u`: the text of `u` is read as the patch document of the operations that take those of `patch`
 -- back on the document of `text`
-abbrev pub TakesPatchBack : Text → Data → PatchText → Type 0
+abbrev pub TakesPatchBack : Text → Data → PrintedPatch → Type 0
 TakesPatchBack text patch u =
     (d : Data) × (os back : List Operation)
     × (read text ≡ Some d) × IsPatch patch os × TakesAllBackBy Numeric (nodes d) os back

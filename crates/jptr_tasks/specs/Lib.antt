@@ -3,7 +3,6 @@ pub mod Failures
 pub mod Layouts
 pub mod Nodes
 pub mod Results
-pub mod Additions
 pub mod Differences
 pub mod Inverting
 pub mod Documents
@@ -18,5 +17,4 @@ pub mod PrivateReplacement
 pub mod PrivateNodes
 pub mod PrivateResults
 pub mod PrivateLineResults
-pub mod PrivatePatches
 pub mod PrivateRuns

@@ -2,7 +2,7 @@
 use Rattle.std.specs.Prelude.{◌≡◌, ⊤}
 use Rattle.serde_json.specs.View.{view}
 use Rattle.jsonptr.specs.Json.{HasSortedKeys}
-use Rattle.jsonptr_edit_in_text.specs.Carrying.{value_of_raw}
+use Rattle.jsonptr_text_value.specs.Raw.{value_of_raw}
 use Rattle.jptr_tasks.specs.declared.task_error.TaskError.{TaskError}
 use Rattle.jptr_tasks.specs.declared.task_error.TaskError.TheVariants.{NotInPlace, NotLocated}
 use Rattle.jptr_tasks.specs.declared.layout.Layout.{Layout}

@@ -15,10 +15,10 @@ use Rattle.jsonptr_patch_document.specs.Writing.{document_of}
 use Rattle.jsonptr_edit_in_text.specs.InPlace.{StaysOneLine}
 use Rattle.jsonptr_edit_in_text.specs.PatchInText.{PatchesInText, IsPatchError}
 use Rattle.jsonptr_edit_in_text.specs.declared.edited.EditError.TheVariants as edit
-use Rattle.jsonptr_edit_in_text.specs.declared.raw_operation.RawOperation.{RawOperation}
-use Rattle.jsonptr_edit_in_text.specs.declared.raw_value.RawValue.{RawValue}
+use Rattle.jsonptr_text_value.specs.declared.raw_operation.RawOperation.{RawOperation}
+use Rattle.jsonptr_text_value.specs.declared.raw_value.RawValue.{RawValue}
 use Rattle.jptr_tasks.specs.Layouts.{Lays}
-use Rattle.jptr_tasks.specs.declared.raw_patch.RawPatch.{RawPatch}
+use Rattle.jsonptr_text_value.specs.declared.patch_text.PatchText.{PatchText}
 use Rattle.jptr_tasks.specs.declared.task_error.TaskError.{TaskError}
 use Rattle.jptr_tasks.specs.declared.task_error.TaskError.TheVariants.{NotPatch, PatchFailed, TooDeep, NotInPlace, PatchTooDeep, NotJson, Memory}
 use Rattle.jptr_tasks.specs.declared.layout.Layout.{Layout}
@@ -73,10 +73,6 @@ FailsToApply text os layout TooDeep = IsPatchError text os edit.TooDeep
 FailsToApply text os layout NotInPlace = (layout ≡ Kept) × ((new : Text) × PatchesInText text os new)
 FailsToApply text os layout (Memory f) = ⊤
 FailsToApply text os layout e = ⊥
-
--- `IsAlone o raw p`: `o` is the one operation of `p`, with the text `raw` of its value
-abbrev pub IsAlone : Operation → RawValue → RawPatch → Type 0
-IsAlone o raw p = (r : RawOperation) × (p.operations.items ≡ r ∷ []) × (r.operation ≡ o) × (r.raw ≡ Some raw)
 
 -- `IsPatchTextFault os e`: `e` is why the patch document of the operations `os` is not printed, unless an allocation
 -- failed

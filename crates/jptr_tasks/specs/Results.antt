@@ -14,20 +14,21 @@ use Rattle.jsonptr_patch.specs.declared.operation.Operation.{Operation}
 use Rattle.jsonptr_patch_document.specs.Document.{IsPatch, IsNoPatch}
 use Rattle.jsonptr_in_text.specs.InText.{FindsInText, RefusesInText}
 use Rattle.jsonptr_edit_in_text.specs.Bytes.{AssignsBytes, DeletesBytes}
-use Rattle.jsonptr_edit_in_text.specs.Carrying.{value_of_raw, Carries}
+use Rattle.jsonptr_text_value.specs.Raw.{value_of_raw}
+use Rattle.jsonptr_edit_in_text.specs.Carrying.{Carries}
 use Rattle.jsonptr_edit_in_text.specs.InPlace.{StaysOneLine}
 use Rattle.jsonptr_edit_in_text.specs.Locating.{IsLocated}
 use Rattle.jsonptr_edit_in_text.specs.EditInText.{AssignsInText, IsAssignError, DeletesInText, LacksInText}
 use Rattle.jsonptr_edit_in_text.specs.PatchInText.{PatchesInText, PatchBytes, IsPatchError}
 use Rattle.jsonptr_edit_in_text.specs.RawPatching.{RawPatchBytes}
 use Rattle.jsonptr_edit_in_text.specs.declared.edited.EditError.TheVariants as edit
-use Rattle.jsonptr_edit_in_text.specs.declared.raw_value.RawValue.{RawValue}
+use Rattle.jsonptr_text_value.specs.declared.raw_value.RawValue.{RawValue}
 use Rattle.jptr_tasks.specs.Layouts.{ShowsInLayout, Lays}
 use Rattle.jptr_tasks.specs.declared.task_error.TaskError.{TaskError}
 use Rattle.jptr_tasks.specs.declared.task_error.TaskError.TheVariants.{NotPatch, Resolve, Assign, NotThere, PatchFailed, TooDeep, NotInPlace, NotLocated, NotJson, Memory}
 use Rattle.jptr_tasks.specs.declared.layout.Layout.{Layout}
 use Rattle.jptr_tasks.specs.declared.layout.Layout.TheVariants.{Kept}
-use Rattle.jptr_tasks.specs.declared.raw_patch.RawPatch.{RawPatch}
+use Rattle.jsonptr_text_value.specs.declared.patch_text.PatchText.{PatchText}
 use Rattle.jptr_tasks.specs.declared.task.Task.{Task}
 use Rattle.jptr_tasks.specs.declared.task.Task.TheVariants.{Get, Set, Delete, Patch}
 
@@ -73,7 +74,7 @@ PatchesInLayout text patch layout out =
 
 -- `PatchesRawInLayout text p layout out`: `PatchesBytesInLayout` for the patch `p`. In the layout `Kept` what an operation puts into the text holds the
 -- tokens of the text that comes with it
-abbrev pub PatchesRawInLayout : Text → RawPatch → Layout → Text → Type 0
+abbrev pub PatchesRawInLayout : Text → PatchText → Layout → Text → Type 0
 PatchesRawInLayout text p layout out =
     PatchesBytesInLayout text (view p.document) layout out × (layout ≡ Kept → RawPatchBytes text p.operations.items out)
 
@@ -126,14 +127,6 @@ FailsToPatch text patch layout NotInPlace =
     (layout ≡ Kept) × ((os : List Operation) × (new : Text) × IsPatch patch os × PatchesInText text os new)
 FailsToPatch text patch layout (Memory f) = ⊤
 FailsToPatch text patch layout e = ⊥
-
--- `FailsToReadPatch patch e`: `e` is why the patch of the document `patch` is not read with the texts of its values,
--- unless an allocation failed. With `NotLocated` the document is a patch
-abbrev pub FailsToReadPatch : Data → TaskError → Type 0
-FailsToReadPatch patch (NotPatch f) = IsNoPatch patch f
-FailsToReadPatch patch NotLocated = (os : List Operation) × IsPatch patch os
-FailsToReadPatch patch (Memory f) = ⊤
-FailsToReadPatch patch e = ⊥
 
 -- `Fails task layout text e`: `e` is why the task has no result on `text`, unless an allocation failed
 abbrev pub Fails : Task → Layout → Text → TaskError → Type 0

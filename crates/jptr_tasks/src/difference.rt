@@ -19,7 +19,7 @@ use std::alloc::Global;
 
 /// The difference of two documents.
 #[derive(Debug, Drop)]
-pub struct PatchText {
+pub struct PrintedPatch {
     /// The JSON text of the patch document (RFC 6902), with no line break after it.
     pub text: String,
     /// Whether the patch has no operation.
@@ -54,7 +54,7 @@ pub fn difference_of(
     old: &Value,
     new: &Value,
     layout: Layout,
-) -> Result<PatchText, TaskError>
+) -> Result<PrintedPatch, TaskError>
     ensures patch { IfOk result
         (IsDifference (nodes (view old.now)) (nodes (view new.now)) layout) }
     ensures same { IfOk result
@@ -65,7 +65,7 @@ pub fn difference_of(
     let patch = diff(alloc, old, new)?;
     let text = patch_text(alloc, &patch, layout)?;
     let is_empty = patch.is_empty();
-    Ok(PatchText { text, is_empty })
+    Ok(PrintedPatch { text, is_empty })
 }
 
 /// Returns the text of the patch document of the operations.

@@ -2,7 +2,7 @@
 ghost use Rattle.std.specs.Prelude.{IfOk, IfErr, string_bytes};
 ghost use Rattle.jsonptr.specs.Pointer.{tokens};
 ghost use Rattle.jsonptr.specs.Json.{nodes};
-ghost use Rattle.jsonptr_edit_in_text.specs.Carrying.{value_of_raw};
+ghost use Rattle.jsonptr_text_value.specs.Raw.{value_of_raw};
 ghost use Rattle.jsonptr_edit_in_text.specs.EditInText.{AssignsInText, DeletesInText};
 ghost use Rattle.jptr_tasks.specs.Results.{Sets, DeletesInLayout, FailsToSet, FailsToDelete};
 ghost use Rattle.jptr_tasks.specs.PrivateResults.{Remakes};

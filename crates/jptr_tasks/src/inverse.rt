@@ -9,7 +9,7 @@ ghost use Rattle.jsonptr_patch.specs.declared.comparison.Comparison.TheVariants.
 ghost use Rattle.jptr_tasks.specs.Inverting.{IsInverse, TakesPatchBack, FailsToInvert};
 ghost use Rattle.jptr_tasks.specs.PrivateResults.{IsApplyFault};
 
-use crate::difference::{PatchText, patch_text};
+use crate::difference::{PrintedPatch, patch_text};
 use crate::layout::{Layout, read_document};
 use crate::patch::operations_of;
 use crate::task_error::TaskError;
@@ -49,7 +49,7 @@ pub fn inverse_of(
     text: &str,
     patch: &Value,
     layout: Layout,
-) -> Result<PatchText, TaskError>
+) -> Result<PrintedPatch, TaskError>
     ensures inverse { IfOk result (IsInverse text.now (view patch.now) layout) }
     ensures taken_back { IfOk result (TakesPatchBack text.now (view patch.now)) }
     ensures refused { IfErr result (FailsToInvert text.now (view patch.now)) }
@@ -60,7 +60,7 @@ pub fn inverse_of(
     let inverse = apply_numerically_with_inverse(alloc, &mut document, operations)?;
     let text = patch_text(alloc, &inverse, layout)?;
     let is_empty = inverse.is_empty();
-    Ok(PatchText { text, is_empty })
+    Ok(PrintedPatch { text, is_empty })
 }
 
 /// Applies the operations, and returns their inverse.

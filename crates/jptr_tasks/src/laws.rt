@@ -26,13 +26,13 @@ ghost use Rattle.jptr_tasks.specs.Layouts.{ShowsInLayout, ReadsBack};
 ghost use Rattle.jptr_tasks.specs.Paths.{ListsText, BuildsText, FailsToBuild};
 ghost use Rattle.jptr_tasks.specs.Replacement.{AtEachMoment, IsDurable, IsGuarded, IsReplaced};
 ghost use Rattle.jptr_tasks.specs.Results.{PatchesBytesInLayout, FailsToPatch};
-ghost use Rattle.jptr_tasks.specs.declared.difference.PatchText.{PatchText};
+ghost use Rattle.jptr_tasks.specs.declared.difference.PrintedPatch.{PrintedPatch};
 ghost use Rattle.jptr_tasks.specs.declared.task_error.TaskError.{TaskError};
 ghost use Rattle.jptr_tasks.specs.declared.task_error.TaskError.TheVariants.{BadLine, NotInPlace, PatchTooDeep, NotJson, Memory};
 ghost use Rattle.jptr_tasks.specs.declared.layout.Layout.{Layout};
 ghost use Rattle.jptr_tasks.specs.declared.line.LineTask.{LineTask};
 ghost use Rattle.jptr_tasks.specs.declared.replacement.Event.TheVariants.{Create, Look, Remove, Rename, Sync, SyncFolder, TakeRights, Write};
-ghost use Rattle.jptr_tasks.specs.declared.raw_patch.RawPatch.{RawPatch};
+ghost use Rattle.jsonptr_text_value.specs.declared.patch_text.PatchText.{PatchText};
 ghost use Rattle.jptr_tasks.specs.declared.task.Task.{Task};
 ghost use Rattle.jptr_tasks.specs.declared.task.Task.TheVariants.{Patch};
 ghost use Rattle.jptr_tasks.specs.declared.layout.Layout.TheVariants.{Kept, Raw};
@@ -70,13 +70,13 @@ pub fn paths_law()
 /// a failed allocation, and [`TaskError::NotInPlace`](crate::task_error::TaskError::NotInPlace) in the layout
 /// [`Layout::Kept`](crate::layout::Layout::Kept).
 pub fn printed_difference_law()
-    ensures applied { (a b out : Text) (n m p : Data) (style layout : Layout) (d : PatchText)
+    ensures applied { (a b out : Text) (n m p : Data) (style layout : Layout) (d : PrintedPatch)
         → read a ≡ Some n → read b ≡ Some m
         → IsDifference (nodes n) (nodes m) style d
         → read (string_bytes d.text) ≡ Some p
         → PatchesBytesInLayout a p layout out
         → ReadsBack layout m out }
-    ensures never_refused { (a b : Text) (n m p : Data) (style layout : Layout) (d : PatchText) (e : TaskError)
+    ensures never_refused { (a b : Text) (n m p : Data) (style layout : Layout) (d : PrintedPatch) (e : TaskError)
         → read a ≡ Some n → read b ≡ Some m
         → IsDifference (nodes n) (nodes m) style d
         → read (string_bytes d.text) ≡ Some p
@@ -100,7 +100,7 @@ pub fn inverse_depth_law()
         → HasSortedKeys patch → FailsToInvert text patch PatchTooDeep
         → (d : Data) × (os : List Operation) × (read text ≡ Some d) × IsPatch patch os
         × HasDeepNodeBefore Numeric (nodes d) os 125 }
-    ensures not_both { (text : Text) (patch : Data) (u : PatchText)
+    ensures not_both { (text : Text) (patch : Data) (u : PrintedPatch)
         → HasSortedKeys patch → TakesPatchBack text patch u → FailsToInvert text patch PatchTooDeep → ⊥ }
 {
     patch_document_law();
@@ -115,13 +115,13 @@ pub fn inverse_depth_law()
 /// [`Layout::Kept`](crate::layout::Layout::Kept). In the layout [`Layout::Raw`](crate::layout::Layout::Raw) a
 /// string is printed without its quotes, so it is not JSON: the first of the two is in another layout.
 pub fn printed_inverse_law()
-    ensures undone { (a b out : Text) (d patch back : Data) (style first layout : Layout) (u : PatchText)
+    ensures undone { (a b out : Text) (d patch back : Data) (style first layout : Layout) (u : PrintedPatch)
         → read a ≡ Some d
         → PatchesBytesInLayout a patch first b → first ≢ Raw
         → IsInverse a patch style u → read (string_bytes u.text) ≡ Some back
         → PatchesBytesInLayout b back layout out
         → ReadsBack layout d out }
-    ensures never_refused { (a b : Text) (d patch back : Data) (style first layout : Layout) (u : PatchText) (e : TaskError)
+    ensures never_refused { (a b : Text) (d patch back : Data) (style first layout : Layout) (u : PrintedPatch) (e : TaskError)
         → read a ≡ Some d
         → PatchesBytesInLayout a patch first b → first ≢ Raw
         → IsInverse a patch style u → read (string_bytes u.text) ≡ Some back
@@ -170,10 +170,10 @@ pub fn order_law()
         → (IsUtf8 l → ⊥) → IsLineFault task layout l e → e ≡ NotJson }
     ensures patch { (text : Text) (patch : Data) (layout : Layout) (e : PatchDocumentError)
         → IsNoPatch patch e → FailsToPatch text patch layout NotJson → ⊥ }
-    ensures patch_of_line { (patch : RawPatch) (layout : Layout) (l : Text)
+    ensures patch_of_line { (patch : PatchText) (layout : Layout) (l : Text)
         (e : PatchDocumentError)
         → IsUtf8 l → IsNoPatch (view patch.document) e → IsLineFault (Patch patch) layout l NotJson → ⊥ }
-    ensures patch_of_bytes { (patch : RawPatch) (layout : Layout) (bytes : List ℕ)
+    ensures patch_of_bytes { (patch : PatchText) (layout : Layout) (bytes : List ℕ)
         (e : PatchDocumentError)
         → IsUtf8 bytes → IsNoPatch (view patch.document) e → TaskFailsOn (Patch patch) layout bytes NotJson
         → ⊥ }

@@ -11,9 +11,6 @@
 //! - [`node`]: the type, the length and the keys of a value, and whether it equals another one.
 //! - [`paths`]: a document as lines of pointers and values, and a document from such lines.
 //! - [`patch`]: applying a patch document, and [`long_patch`]: one of many operations.
-//! - [`plain_patch`]: a patch document, and [`raw_patch`]: with the texts of its values.
-//! - [`patch_document`]: reading a patch document, and making one. [`failed_patch`]: an error, with the
-//!   document that it is about.
 //! - [`replacement`]: replacing the text of a file, whatever moment the system stops at.
 //! - [`task_error`]: the errors, and the exit status of each.
 //! - [`exit_status`]: what each exit status means.
@@ -25,7 +22,6 @@ pub mod difference;
 pub mod document;
 mod edit;
 pub mod exit_status;
-pub mod failed_patch;
 pub mod inverse;
 pub mod laws;
 pub mod layout;
@@ -34,10 +30,7 @@ pub mod lines;
 pub mod long_patch;
 pub mod node;
 pub mod patch;
-pub mod patch_document;
 pub mod paths;
-pub mod plain_patch;
-pub mod raw_patch;
 pub mod replacement;
 pub mod result;
 pub mod task;

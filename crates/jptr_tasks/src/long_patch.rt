@@ -11,15 +11,14 @@ ghost use Rattle.jsonptr_edit_in_text.specs.PatchInText.{PatchesInText};
 ghost use Rattle.jptr_tasks.specs.Results.{PatchesInLayout, FailsToPatch};
 ghost use Rattle.jptr_tasks.specs.PrivateResults.{Remakes, FailsToApply, AppliesInLayout, IsAppliedTo, IsRelayoutFault};
 
-use crate::failed_patch::FailedPatch;
 use crate::layout::{Layout, lay_out, read_document};
-use crate::plain_patch::PlainPatch;
 use crate::task_error::TaskError;
 use jsonptr::Fault;
 use jsonptr_edit_in_text::stays_one_line;
 use jsonptr_in_text::Scratch;
 use jsonptr_patch::{Comparison, Operation, apply_naming_pointer};
 use jsonptr_relayout::{Relaid, RelayoutError, relayout_with_texts};
+use jsonptr_text_value::{FailedPatch, PlainPatch};
 use jsonptr_value::discard;
 use serde_json::Value;
 use std::alloc::Global;
@@ -74,7 +73,7 @@ pub fn patch_in_layout(
     patch: PlainPatch,
     given: &str,
     layout: Layout,
-) -> Result<String, FailedPatch>
+) -> Result<String, FailedPatch<TaskError>>
     ensures applied { IfOk result
         (λ s. PatchesInLayout text.now (view patch.document) layout (string_bytes s)) }
     ensures refused { IfErr result (λ e. (e.document ≡ patch.document)

@@ -3,20 +3,21 @@ ghost use Rattle.std.specs.Prelude.{◌≡◌, All, IfOk, IfErr, IfSome, string_
 ghost use Rattle.serde_json.specs.View.{view};
 ghost use Rattle.jsonptr_patch_document.specs.Document.{IsPatch};
 ghost use Rattle.jsonptr_edit_in_text.specs.PatchInText.{PatchesInText};
-ghost use Rattle.jsonptr_edit_in_text.specs.RawPatching.{operations_in, RawPatchBytes, IsGivenIn};
+ghost use Rattle.jsonptr_text_value.specs.Operations.{operations_in};
+ghost use Rattle.jsonptr_edit_in_text.specs.RawPatching.{RawPatchBytes};
 ghost use Rattle.jsonptr_edit_in_text.specs.InPlace.{StaysOneLine};
-ghost use Rattle.jptr_tasks.specs.Results.{PatchesRawInLayout, FailsToPatch, FailsToReadPatch};
+ghost use Rattle.jptr_tasks.specs.Results.{PatchesRawInLayout, FailsToPatch};
 ghost use Rattle.jptr_tasks.specs.PrivateResults.{Remakes, FailsToApply, IsNotPatch, PatchedBy};
 
 use crate::layout::{Layout, lay_out};
-use crate::raw_patch::RawPatch;
 use crate::task_error::TaskError;
 use jsonptr::Fault;
 use jsonptr_edit_in_text::{
-    Buffers, RawOperation, apply_and_print, raw_operations, stays_one_line, try_apply_raw_in_place,
+    Buffers, RawOperation, apply_and_print, stays_one_line, try_apply_raw_in_place,
 };
 use jsonptr_patch::Operation;
 use jsonptr_patch_document::read_patch;
+use jsonptr_text_value::PatchText;
 use serde_json::Value;
 use std::alloc::{AllocError, Global};
 
@@ -32,7 +33,7 @@ pub fn patch(
     alloc: Global,
     buffers: &mut Buffers,
     text: &str,
-    patch: &RawPatch,
+    patch: &PatchText,
     layout: Layout,
 ) -> Result<String, TaskError>
     ensures applied { IfOk result (λ s. PatchesRawInLayout text.now patch.now layout (string_bytes s)) }
@@ -41,57 +42,6 @@ pub fn patch(
     match layout {
         Layout::Kept => patch_in_place(alloc, buffers, text, patch),
         _ => patch_anew(alloc, buffers, text, patch, layout),
-    }
-}
-
-/// Returns the patch of the document, each operation with the text of its value in `given`, the text of
-/// the document.
-///
-/// # Errors
-///
-/// - [`TaskError::NotPatch`] if the document is not a patch.
-/// - [`TaskError::NotLocated`] if the text of a value is not found in `given`. That is not known to
-///   happen in a text that is read as the document.
-/// - [`TaskError::Memory`] if an allocation fails.
-///
-/// # Examples
-///
-/// ```rust
-/// let given = r#"[{"op": "add", "path": "/b", "value": {"z": 1.10, "y": 1e5}}]"#;
-/// let patch = raw_patch(alloc, given, Value::from_str(alloc, given)?)?;
-/// let new = result_in_text(alloc, r#"{"a": 1}"#, &Task::Patch(patch), Layout::Kept)?;
-/// assert_eq!(rt; new.as_str(), r#"{"a": 1, "b": {"z": 1.10, "y": 1e5}}"#);
-/// ```
-pub fn raw_patch(alloc: Global, given: &str, document: Value) -> Result<RawPatch, TaskError>
-    ensures document { IfOk result (λ p. p.document ≡ document) }
-    ensures texts { IfOk result (λ p. All (IsGivenIn given.now) p.operations.items) }
-    ensures refused { IfErr result (FailsToReadPatch (view document)) }
-{
-    let operations = operations_of(alloc, &document)?;
-    with_texts(alloc, given, document, operations)
-}
-
-/// Returns the patch of the document, which has these operations, with the texts of their values in
-/// `given`, the text of the document.
-pub(crate) fn with_texts(
-    alloc: Global,
-    given: &str,
-    document: Value,
-    operations: Vec<Operation>,
-) -> Result<RawPatch, TaskError>
-    requires { IsPatch (view document) operations.items }
-    ensures document { IfOk result (λ p. p.document ≡ document) }
-    ensures texts { IfOk result (λ p. All (IsGivenIn given.now) p.operations.items) }
-    ensures refused { IfErr result (FailsToReadPatch (view document)) }
-{
-    let mut buffers = Buffers::new(alloc);
-    let found = raw_operations(alloc, &mut buffers, given, operations)?;
-    match found {
-        Some(operations) => Ok(RawPatch {
-            document,
-            operations,
-        }),
-        None => Err(TaskError::NotLocated),
     }
 }
 
@@ -116,7 +66,7 @@ fn patch_in_place(
     alloc: Global,
     buffers: &mut Buffers,
     text: &str,
-    patch: &RawPatch,
+    patch: &PatchText,
 ) -> Result<String, TaskError>
     ensures applied { IfOk result (λ s.
         PatchesInText text.now (operations_in patch.now.operations.items) (string_bytes s)) }
@@ -173,7 +123,7 @@ fn patch_anew(
     alloc: Global,
     buffers: &mut Buffers,
     text: &str,
-    patch: &RawPatch,
+    patch: &PatchText,
     layout: Layout,
 ) -> Result<String, TaskError>
     ensures applied { IfOk result
@@ -191,7 +141,7 @@ fn patched(
     alloc: Global,
     buffers: &mut Buffers,
     text: &str,
-    patch: &RawPatch,
+    patch: &PatchText,
 ) -> Result<String, TaskError>
     ensures applied { IfOk result
         (λ s. PatchedBy text.now (view patch.now.document) (string_bytes s)) }

@@ -1,8 +1,8 @@
 //! What to do with a document.
 
-use crate::raw_patch::RawPatch;
 use jsonptr::Pointer;
 use jsonptr_edit_in_text::RawValue;
+use jsonptr_text_value::PatchText;
 use serde_json::Value;
 
 /// What to do with a document.
@@ -16,5 +16,5 @@ pub enum Task<'a> {
     /// Deletes the value that the pointer resolves to.
     Delete(Pointer<'a>),
     /// Applies the patch (RFC 6902), each value with its own text.
-    Patch(RawPatch),
+    Patch(PatchText),
 }

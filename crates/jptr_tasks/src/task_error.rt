@@ -1,6 +1,6 @@
 //! The errors of a command, and its exit status.
 ghost use Rattle.std.specs.Prelude.{◌≡◌};
-ghost use Rattle.jptr_tasks.specs.Failures.{of_read_error, of_in_text_error, of_locate_error, of_assign_error, of_patch_error, of_in_place_assign_error, of_in_place_delete_error, of_build_error, of_input_error, of_relayout_error, status_of_task, status_of_line};
+ghost use Rattle.jptr_tasks.specs.Failures.{of_read_error, of_in_text_error, of_locate_error, of_assign_error, of_patch_error, of_patch_text_error, of_in_place_assign_error, of_in_place_delete_error, of_build_error, of_input_error, of_relayout_error, status_of_task, status_of_line};
 ghost use Rattle.jptr_tasks.specs.declared.task_error.TaskError.TheVariants.{Memory, Write};
 
 use crate::exit_status::{BAD_INPUT, FILE, MEMORY, NO, NOT_MADE};
@@ -13,6 +13,7 @@ use jsonptr_patch::FailedOperation;
 use jsonptr_patch_document::PatchDocumentError;
 use jsonptr_paths::build::{BuildError, LineError};
 use jsonptr_relayout::RelayoutError;
+use jsonptr_text_value::PatchTextError;
 use jsonptr_value::{MAX_DEPTH, ReadError};
 use std::alloc::AllocError;
 use thiserror::Error;
@@ -198,6 +199,19 @@ impl From<EditError<FailedOperation>> for TaskError {
             EditError::Refused(error) => TaskError::PatchFailed(error),
             EditError::TooDeep => TaskError::TooDeep,
             EditError::Memory(error) => TaskError::Memory(error),
+        }
+    }
+}
+
+impl From<PatchTextError> for TaskError {
+    ghost from_gives = { λ error task_error. task_error ≡ of_patch_text_error error };
+
+    fn from(error: PatchTextError) -> TaskError {
+        match error {
+            PatchTextError::NotPatch(error) => TaskError::NotPatch(error),
+            PatchTextError::NotLocated => TaskError::NotLocated,
+            PatchTextError::TooDeep => TaskError::PatchTooDeep,
+            PatchTextError::Memory(error) => TaskError::Memory(error),
         }
     }
 }

@@ -26,15 +26,16 @@ use Rattle.jsonptr_json_edits.specs.declared.edit.Edit.TheVariants as edit
 use Rattle.jsonptr_json_edits.specs.Spacing.{IsBlank, IsTrimmed, Splices}
 use Rattle.jsonptr_json_edits.specs.Child.{IsValueText, IsOneChild}
 use Rattle.jsonptr_edit_in_text.specs.Bytes.{IsScalar, ReplacesBytes, ExpandsBytes, AddsExpandedBytes, CutsBytes, CutsInTurn, CutsMembers, CutsElement}
-use Rattle.jsonptr_edit_in_text.specs.Carrying.{value_of_raw}
+use Rattle.jsonptr_text_value.specs.Raw.{value_of_raw}
 use Rattle.jsonptr_edit_in_text.specs.PatchInText.{AddsAtBytes}
 use Rattle.jsonptr_edit_in_text.specs.PrivateReaching.{ReachedInText, ReplacesCut, MemberAdded, ElementAppended, ReplacesByText, ReplacesScalarByText, AddsPieceByText, AddsByText}
 use Rattle.jsonptr_edit_in_text.specs.PrivateOperating.{ElementInserted, AddsAtByText}
 use Rattle.jsonptr_edit_in_text.specs.RawPatching.{AddsGiven, ReplacesGiven}
-use Rattle.jsonptr_edit_in_text.specs.declared.raw_value.RawValue.{RawValue}
-use Rattle.jsonptr_edit_in_text.proofs.EditLemmas.{same_data, label_there}
+use Rattle.jsonptr_text_value.specs.declared.raw_value.RawValue.{RawValue}
+use Rattle.jsonptr_text_value.proofs.WrappingLemmas.{same_data}
+use Rattle.jsonptr_edit_in_text.proofs.EditLemmas.{label_there}
 use Rattle.jsonptr_edit_in_text.proofs.ReachingLemmas.{in_object}
-use Rattle.jsonptr_edit_in_text.proofs.WrappingLemmas.{raw_reads}
+use Rattle.jsonptr_text_value.proofs.WrappingLemmas.{raw_reads}
 
 -- the value of a text that is read twice
 pub one_value : (t : Text) (d e : Data) → read t ≡ Some d → read t ≡ Some e → d ≡ e

@@ -30,6 +30,7 @@ use Rattle.jsonptr_edit_in_text.specs.declared.replace.ValueEdit.{ValueEdit}
 use Rattle.jsonptr_edit_in_text.specs.EditInText.{AssignsInText}
 use Rattle.jsonptr_edit_in_text.specs.PrivateReaching.{ReachedInText, ReplacesCut, IsValueEdit, Becomes, ScalarBecomes, MemberAdded, ElementAppended}
 use Rattle.jsonptr_edit_in_text.proofs.ReachingLemmas.{reached_so, item_content, below, same_below, other_place, other_key}
+use Rattle.jsonptr_text_value.proofs.WrappingLemmas.{same_data}
 
 pub label_there : (d at : Data) (w : Path) → content_at w (content d) ≡ Some (content at) → nodes d w ≡ Some (label_of (content at))
 label_there d at w h = ap (option_map label_of) h
@@ -209,9 +210,6 @@ if_both (Ok (Some s)) P Q h k = (h, k)
 pub if_true : (r : Result Bool AllocError) (P Q : Type 0) → (P → Q) → IfOk r (λ b. IsTrue b → P) → IfOk r (λ b. IsTrue b → Q)
 if_true (Err e) P Q f h = h
 if_true (Ok b) P Q f h = λ is. f (h is)
-
-pub same_data : (d e : Data) → Some d ≡ Some e → d ≡ e
-same_data d e h = cc
 
 pub scalar_label : (c : Content) (a : Scalar) → c ≡ scalar a → (b : Scalar) × (label_of c ≡ a_leaf b)
 scalar_label c a h = (a, ap label_of h)

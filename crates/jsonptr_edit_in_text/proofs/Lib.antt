@@ -1,9 +1,8 @@
 mod BytesLaws
 mod DeletionLemmas
 mod OperatingLemmas
-mod RawListLemmas
 mod RewritingLemmas
-mod WrappingLemmas
+mod CarryingLemmas
 pub mod BytesLemmas
 pub mod EditLemmas
 pub mod InPlaceLemmas

@@ -37,7 +37,8 @@ use Rattle.jsonptr_edit_in_text.specs.PatchInText.{PatchesInText}
 use Rattle.jsonptr_edit_in_text.specs.declared.replace.ValueEdit.{ValueEdit}
 use Rattle.jsonptr_edit_in_text.specs.PrivateReaching.{ReachedInText, Becomes, ReplacesCut, IsValueEdit, MemberAdded, ElementAppended}
 use Rattle.jsonptr_edit_in_text.specs.PrivateOperating.{OperatesInText, PutsInText, AddsValueInText, AddsInText, FindsText, MovesInText, CopiesInText, PassesInText, ElementInserted, AreMemberChoices}
-use Rattle.jsonptr_edit_in_text.proofs.EditLemmas.{same_data, label_there, map_there, member_map}
+use Rattle.jsonptr_text_value.proofs.WrappingLemmas.{same_data}
+use Rattle.jsonptr_edit_in_text.proofs.EditLemmas.{label_there, map_there, member_map}
 use Rattle.jsonptr_edit_in_text.proofs.ReachingLemmas.{item_content, below, same_below, put_level, in_object, reached_in_text}
 
 -- two readings of one text are of one document

@@ -10,15 +10,16 @@ use Rattle.jsonptr_patch.specs.declared.operation.Operation.{Operation}
 use Rattle.jsonptr_patch.specs.declared.operation.Operation.TheVariants.{Add, Remove, Replace, Move, Copy, Test}
 use Rattle.jsonptr_patch.specs.declared.failed_operation.FailedOperation.{FailedOperation}
 use Rattle.jsonptr_edit_in_text.specs.Bytes.{KeepsBytes, ReplacesBytes}
-use Rattle.jsonptr_edit_in_text.specs.Carrying.{value_of_raw}
-use Rattle.jsonptr_edit_in_text.specs.Fitting.{IsRawTextOf, HasFittingText}
+use Rattle.jsonptr_text_value.specs.Raw.{value_of_raw}
+use Rattle.jsonptr_text_value.specs.Fitting.{IsRawTextOf, HasFittingText}
 use Rattle.jsonptr_edit_in_text.specs.PatchInText.{AddsAtBytes, OperationBytes, PatchBytes}
-use Rattle.jsonptr_edit_in_text.specs.RawPatching.{operations_in, AddsGiven, ReplacesGiven, GivenBytes, RawPatchBytes}
+use Rattle.jsonptr_text_value.specs.Operations.{operations_in}
+use Rattle.jsonptr_edit_in_text.specs.RawPatching.{AddsGiven, ReplacesGiven, GivenBytes, RawPatchBytes}
 use Rattle.jsonptr_edit_in_text.specs.declared.edited.Edited.{Edited}
 use Rattle.jsonptr_edit_in_text.specs.declared.edited.Edited.TheVariants.{InPlace, Rewritten}
 use Rattle.jsonptr_edit_in_text.specs.declared.edited.EditError.{EditError}
-use Rattle.jsonptr_edit_in_text.specs.declared.raw_operation.RawOperation.{RawOperation}
-use Rattle.jsonptr_edit_in_text.specs.declared.raw_value.RawValue.{RawValue}
+use Rattle.jsonptr_text_value.specs.declared.raw_operation.RawOperation.{RawOperation}
+use Rattle.jsonptr_text_value.specs.declared.raw_value.RawValue.{RawValue}
 use Rattle.jsonptr_edit_in_text.proofs.EditLemmas.{if_new}
 
 -- ---- bytes
@@ -74,12 +75,3 @@ pub replaces_none : (r : Result (Option (String Global)) AllocError) (old : Text
 replaces_none r old ts value text is h =
     subst (λ (o : Option RawValue). IfOk r (λ n. IfSome n (λ s. ReplacesGiven old ts (view value) o (string_bytes s)))) (sym is)
     (if_new r (λ s. ReplacesBytes old (string_bytes s) ts (view value)) (λ s. ReplacesGiven old ts (view value) None (string_bytes s)) (λ s b. (b, tt)) h)
-
--- no text fits each operation
-pub fits_none : (o : Operation) → HasFittingText o None
-fits_none (Add path value) = tt
-fits_none (Remove path) = tt
-fits_none (Replace path value) = tt
-fits_none (Move from path) = tt
-fits_none (Copy from path) = tt
-fits_none (Test path value) = tt

@@ -1,15 +1,11 @@
 pub mod Bytes
 pub mod Carrying
-pub mod DataSet
 pub mod EditInText
 pub mod InPlace
-pub mod Fitting
 pub mod Indenting
 pub mod Locating
 pub mod PatchInText
-pub mod PrivateFitting
 pub mod PrivateOperating
 pub mod PrivateReaching
 pub mod PrivateRewriting
-pub mod PrivateWrapping
 pub mod RawPatching

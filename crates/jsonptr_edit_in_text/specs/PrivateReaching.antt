@@ -76,10 +76,6 @@ pub record ElementAppended (x piece : Text) (d d2 : Data) : Type 0 where
   pub inserts : InsertsItem (items_count ds) e ds ds2
   pub refers : (x ≡ codes "-") ⊎ (x ≡ dec (items_count ds))
 
--- `IsExpanded tokens v t`: the text `t` is that of `v`, expanded by `tokens`
-abbrev pub IsExpanded : List Text → NodeMap → ValueText → Type 0
-IsExpanded tokens v t = (e : Data) × (read (string_bytes t.flat) ≡ Some e) × (nodes e ≡ expanded tokens v)
-
 -- ---- which bytes change, by the text of the value that an edit brings. What is put into the text holds the tokens of that
 -- text, and so does the new text
 

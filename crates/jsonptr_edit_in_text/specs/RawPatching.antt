@@ -7,14 +7,10 @@ use Rattle.jsonptr_patch.specs.declared.operation.Operation.{Operation}
 use Rattle.jsonptr_patch.specs.declared.operation.Operation.TheVariants.{Add, Remove, Replace, Move, Copy, Test}
 use Rattle.jsonptr_json_edits.specs.Alike.{HoldsTokens}
 use Rattle.jsonptr_edit_in_text.specs.Bytes.{ReplacesBytes, DeletesBytes}
-use Rattle.jsonptr_edit_in_text.specs.Fitting.{brings_value}
+use Rattle.jsonptr_text_value.specs.Fitting.{brings_value}
 use Rattle.jsonptr_edit_in_text.specs.PatchInText.{AddsAtBytes, added_piece, MovesBytes, CopiesBytes}
-use Rattle.jsonptr_edit_in_text.specs.declared.raw_operation.RawOperation.{RawOperation}
-use Rattle.jsonptr_edit_in_text.specs.declared.raw_value.RawValue.{RawValue}
-
--- `operations_in rs` are the operations of `rs`, without the texts of their values
-abbrev pub operations_in : List RawOperation → List Operation
-operations_in rs = map (λ r. r.operation) rs
+use Rattle.jsonptr_text_value.specs.declared.raw_operation.RawOperation.{RawOperation}
+use Rattle.jsonptr_text_value.specs.declared.raw_value.RawValue.{RawValue}
 
 -- `HoldsText text piece`: if there is a text, a part of `piece` has its tokens, one for one
 abbrev pub HoldsText : Option RawValue → Text → Type 0
@@ -43,10 +39,3 @@ GivenBytes old (Test path value) text new = new ≡ old
 abbrev pub RawPatchBytes : Text → List RawOperation → Text → Type 0
 RawPatchBytes old [] new = new ≡ old
 RawPatchBytes old (r ∷ rs) new = (mid : Text) × GivenBytes old r.operation r.raw mid × RawPatchBytes mid rs new
-
--- `IsGivenIn text r`: if the operation of `r` puts a value into the document, a text comes with it. It has the tokens of a
--- part of `text`, one for one
-abbrev pub IsGivenIn : Text → RawOperation → Type 0
-IsGivenIn text r =
-    IsTrue (brings_value r.operation)
-    → (raw : RawValue) × (r.raw ≡ Some raw) × HoldsTokens (string_bytes raw.printed.flat) text

@@ -5,16 +5,16 @@ ghost use Rattle.serde_json.specs.Read.{read};
 ghost use Rattle.jsonptr_edit_in_text.specs.Bytes.{KeepsBytes};
 ghost use Rattle.jsonptr_edit_in_text.specs.EditInText.{edited_text};
 ghost use Rattle.jsonptr_edit_in_text.specs.PatchInText.{PatchesInText, PatchBytes, IsPatchError};
-ghost use Rattle.jsonptr_edit_in_text.specs.RawPatching.{operations_in, RawPatchBytes};
+ghost use Rattle.jsonptr_text_value.specs.Operations.{operations_in};
+ghost use Rattle.jsonptr_edit_in_text.specs.RawPatching.{RawPatchBytes};
 
 use crate::edited::{EditError, Edited};
 use crate::operate::operate;
-use crate::raw_operation::RawOperation;
-use crate::raw_patch::{plain, without_texts};
 use crate::rewrite::apply_and_print;
 use jsonptr_in_text::is_document;
 use jsonptr_json_edits::buffers::Buffers;
 use jsonptr_patch::{FailedOperation, Operation};
+use jsonptr_text_value::{RawOperation, plain_operations, without_texts};
 use std::alloc::{AllocError, Global};
 
 /// Applies the operations of a patch in order to the document that the text contains, all of them or
@@ -153,7 +153,7 @@ fn apply_plain(
         (λ s. PatchesInText text.now (operations_in raw_operations.items) (string_bytes s)) }
     ensures refused { IfErr result (IsPatchError text.now (operations_in raw_operations.items)) }
 {
-    let operations = plain(alloc, raw_operations)?;
+    let operations = plain_operations(alloc, raw_operations)?;
     apply_and_print(alloc, text, operations)
 }
 

@@ -4,21 +4,20 @@ ghost use Rattle.serde_json.specs.View.{view};
 ghost use Rattle.jsonptr.specs.Pointer.{tokens};
 ghost use Rattle.jsonptr.specs.Json.{nodes};
 ghost use Rattle.jsonptr_edit_in_text.specs.Bytes.{KeepsBytes, AssignsBytes, ReplacesBytes, ExpandsBytes, AddsExpandedBytes};
-ghost use Rattle.jsonptr_edit_in_text.specs.Carrying.{value_of_raw, Carries};
+ghost use Rattle.jsonptr_text_value.specs.Raw.{value_of_raw};
+ghost use Rattle.jsonptr_edit_in_text.specs.Carrying.{Carries};
 ghost use Rattle.jsonptr_edit_in_text.specs.EditInText.{edited_text, AssignsInText, IsAssignError};
 
 use crate::edited::{EditError, Edited};
 use crate::insert::{add_member, append};
 use crate::place::Site;
-use crate::raw::expanded_text;
-use crate::raw_value::RawValue;
 use crate::replace::{replace, replace_scalar};
 use crate::rewrite::assign_and_print;
 use jsonptr::{Pointer, Token, assign};
 use jsonptr_in_text::selectors::selectors_of;
 use jsonptr_json_edits::buffers::Buffers;
 use jsonptr_json_edits::locate::place_of;
-use jsonptr_value::{MAX_DEPTH, nests_within};
+use jsonptr_text_value::{RawValue, expanded_text};
 use serde_json::Value;
 use std::alloc::{AllocError, Global};
 
@@ -101,11 +100,10 @@ pub fn assign_in_text_with(
     ensures refused { IfErr result (IsAssignError text.now (tokens pointer.entry)
         (view value)) }
 {
-    if !nests_within(&value, MAX_DEPTH) {
+    let Some(raw) = RawValue::from_value(alloc, &value)? else {
         let new = assign_and_print(alloc, text, pointer, value)?;
         return Ok(Edited::Rewritten(new));
-    }
-    let raw = RawValue::print(alloc, &value)?;
+    };
     assign_raw_in_text_with(alloc, buffers, text, pointer, &raw)
 }
 

@@ -7,8 +7,9 @@ ghost use Rattle.jsonptr_io.specs.Lines.{IsOneLine};
 ghost use Rattle.jsonptr_json_edits.specs.Spacing.{IsBlank, Splices};
 ghost use Rattle.jsonptr_edit_in_text.specs.Bytes.{AddsPiece, CutsBytes, ReplacesBytes};
 ghost use Rattle.jsonptr_edit_in_text.specs.PatchInText.{PatchBytes};
-ghost use Rattle.jsonptr_edit_in_text.specs.RawPatching.{operations_in, RawPatchBytes};
-ghost use Rattle.jsonptr_edit_in_text.specs.declared.raw_operation.RawOperation.{RawOperation};
+ghost use Rattle.jsonptr_text_value.specs.Operations.{operations_in};
+ghost use Rattle.jsonptr_edit_in_text.specs.RawPatching.{RawPatchBytes};
+ghost use Rattle.jsonptr_text_value.specs.declared.raw_operation.RawOperation.{RawOperation};
 
 /// States that the bytes of an edit can be put back.
 ///

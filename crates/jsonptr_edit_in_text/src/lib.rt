@@ -34,7 +34,6 @@
 
 mod add;
 mod apply;
-mod as_written;
 mod assign;
 mod at_offset;
 mod delete;
@@ -47,19 +46,12 @@ pub mod laws;
 mod locate;
 mod one_line;
 mod operate;
-mod own_text;
 mod place;
-mod raw;
-mod raw_operation;
-mod raw_patch;
-mod raw_value;
 mod remove;
 mod replace;
 mod rewrite;
-mod spans;
 mod value_at;
 mod value_text;
-mod wrap;
 
 pub use apply::{
     apply_in_text, apply_in_text_with, apply_raw_in_text_with, try_apply_raw_in_place,
@@ -74,10 +66,8 @@ pub use in_place::{
 };
 pub use indent::{IndentError, indent_text};
 pub use jsonptr_json_edits::buffers::Buffers;
+pub use jsonptr_text_value::{RawOperation, RawValue, raw_operations, without_texts};
 pub use jsonptr_value::ReadError;
 pub use locate::{LocateError, Located, locate_in_text, locate_in_text_with};
 pub use one_line::stays_one_line;
-pub use raw_operation::RawOperation;
-pub use raw_patch::{raw_operations, without_texts};
-pub use raw_value::RawValue;
 pub use rewrite::apply_and_print;

@@ -3,15 +3,13 @@ ghost use Rattle.std.specs.Prelude.{IfOk, IfSome, IsTrue, string_bytes};
 ghost use Rattle.serde_json.specs.View.{view};
 ghost use Rattle.jsonptr.specs.Pointer.{tokens};
 ghost use Rattle.jsonptr.specs.Json.{nodes};
-ghost use Rattle.jsonptr_edit_in_text.specs.Fitting.{IsRawTextOf};
+ghost use Rattle.jsonptr_text_value.specs.Fitting.{IsRawTextOf};
 ghost use Rattle.jsonptr_edit_in_text.specs.PatchInText.{MovesBytes, CopiesBytes};
 ghost use Rattle.jsonptr_edit_in_text.specs.PrivateOperating.{OperatesInText, PutsInText, AddsValueInText, MovesInText, CopiesInText, PassesInText};
 ghost use Rattle.jsonptr_edit_in_text.specs.RawPatching.{AddsGiven, ReplacesGiven, GivenBytes};
 
 use crate::add::add_at;
 use crate::delete::cut_out;
-use crate::raw_operation::RawOperation;
-use crate::raw_value::RawValue;
 use crate::replace::replace_at;
 use crate::value_at::value_at;
 use crate::value_text::value_text;
@@ -19,6 +17,7 @@ use jsonptr::Pointer;
 use jsonptr_in_text::{InTextError, resolve_in_text_with};
 use jsonptr_json_edits::buffers::Buffers;
 use jsonptr_patch::{Comparison, Operation, is_equal, is_proper_prefix};
+use jsonptr_text_value::{RawOperation, RawValue};
 use serde_json::Value;
 use std::alloc::{AllocError, Global};
 

@@ -1,15 +1,12 @@
 -- What is known of a text with comments after an edit.
 use Rattle.std.proofs.Common.{◌≡◌, List, ap, ◌∙◌, option_and_then}
-use Rattle.json.specs.Json.{value, if_last}
-use Rattle.json.specs.Lex.{tokens}
-use Rattle.json.specs.Token.{Token}
-use Rattle.serde_json.specs.Read.{of_json, max_depth, read}
 use Rattle.jsonptr.specs.Text.{Text}
 use Rattle.jsonptr.specs.Node.{NodeMap}
 use Rattle.jsonptr_value.specs.declared.from_text.ReadError.{ReadError}
 use Rattle.jsonptr_value.specs.declared.from_text.ReadError.TheVariants as unread
 use Rattle.jsonptr_value.specs.Reading.{IsReadError}
 use Rattle.jsonptr_comments.specs.Comments.{IsWithoutComments}
+use Rattle.jsonptr_text_value.proofs.WrappingLemmas.{read_same}
 use Rattle.jsonptr_edit_in_text.specs.EditInText.{AssignsInText, DeletesInText}
 use Rattle.jsonptr_edit_in_text.specs.InPlace.{IsInPlaceError}
 use Rattle.jsonptr_edit_in_text.specs.declared.edited.EditError.{EditError}
@@ -18,10 +15,6 @@ use Rattle.jsonptr_edit_in_text.specs.declared.in_place.InPlaceError.{InPlaceErr
 use Rattle.jsonptr_edit_in_text.specs.declared.in_place.InPlaceError.TheVariants.{NotInPlace, Edit}
 use Rattle.jsonptr_edit_with_comments.specs.Edits.{IsLaidOut}
 use Rattle.jsonptr_edit_with_comments.specs.EditWithComments.{Becomes, EditsAs, IsWithCommentsError, IsDeleteError, with_comments, with_comments_of_read}
-
--- texts with the same tokens are read alike
-pub read_same : (t u : Text) → tokens t ≡ tokens u → read t ≡ read u
-read_same t u same = ap (λ (ts : List Token). option_and_then of_json (option_and_then (λ p. if_last p.0 p.1) (value max_depth ts))) same
 
 pub assigned : (text old new made : Text) (ts : List Text) (v : NodeMap) → IsWithoutComments text old → IsLaidOut new made → AssignsInText old ts v new → Becomes (λ a b. AssignsInText a ts v b) text made
 assigned text old new made ts v w h a = (old, h.0, w, h.1, (a.0, a.1, a.2, read_same h.0 new h.2 ∙ a.3, a.4, a.5))

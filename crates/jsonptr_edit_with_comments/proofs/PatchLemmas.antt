@@ -7,20 +7,17 @@ use Rattle.jsonptr_comments.specs.Comments.{IsWithoutComments}
 use Rattle.jsonptr_patch.specs.declared.operation.Operation.{Operation}
 use Rattle.jsonptr_patch.specs.declared.failed_operation.FailedOperation.{FailedOperation}
 use Rattle.jsonptr_edit_in_text.specs.PatchInText.{PatchesInText, PatchBytes}
-use Rattle.jsonptr_edit_in_text.specs.RawPatching.{operations_in, RawPatchBytes}
-use Rattle.jsonptr_edit_in_text.specs.declared.raw_operation.RawOperation.{RawOperation}
+use Rattle.jsonptr_text_value.specs.Operations.{operations_in}
+use Rattle.jsonptr_edit_in_text.specs.RawPatching.{RawPatchBytes}
+use Rattle.jsonptr_text_value.specs.declared.raw_operation.RawOperation.{RawOperation}
 use Rattle.jsonptr_edit_with_comments.specs.Edits.{IsLaidOut, IsOneEdit}
 use Rattle.jsonptr_edit_with_comments.specs.EditWithComments.{Becomes, EditsAs}
 use Rattle.jsonptr_edit_with_comments.specs.Patches.{OperationEdits, PatchEdits, IsMadeInTwo}
 use Rattle.jsonptr_edit_with_comments.specs.declared.error.WithCommentsError.{WithCommentsError}
-use Rattle.jsonptr_edit_with_comments.proofs.EditLemmas.{read_same}
+use Rattle.jsonptr_text_value.proofs.WrappingLemmas.{read_same}
 
 abbrev pub Made : Type 0
 Made = Result (Option (String Global)) AllocError
-
-pub operations_push : (rs : List RawOperation) (r : RawOperation) → operations_in (rs ++ r ∷ []) ≡ operations_in rs ++ r.operation ∷ []
-operations_push [] r = refl
-operations_push (q ∷ rs) r = ap (λ (os : List Operation). q.operation ∷ os) (operations_push rs r)
 
 -- one operation more
 pub edits_push : (old mid new : Text) (os : List Operation) (o : Operation) → PatchEdits old os mid → OperationEdits mid o new → PatchEdits old (os ++ o ∷ []) new

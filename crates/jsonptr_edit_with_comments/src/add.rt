@@ -41,7 +41,7 @@ impl<'t> NewChild<'t> {
             },
             value: slice(texts.new, new.value, new.child.to),
             space: if is_commented {
-                last_line(space)
+                from_last_break(space)
             } else {
                 space
             },
@@ -50,7 +50,7 @@ impl<'t> NewChild<'t> {
 }
 
 /// Returns the white space from its last line break on. On one line, returns a space at most.
-fn last_line(space: &str) -> &str {
+fn from_last_break(space: &str) -> &str {
     let Some(at) = space.rfind('\n') else {
         return slice(space, 0, space.len().min(1));
     };

@@ -1,7 +1,8 @@
 //! Applying a patch in a text with comments (RFC 6902).
 ghost use Rattle.std.specs.Prelude.{IfOk, IfErr, IfSome, string_bytes};
 ghost use Rattle.jsonptr_edit_in_text.specs.PatchInText.{PatchesInText, PatchBytes, IsPatchError};
-ghost use Rattle.jsonptr_edit_in_text.specs.RawPatching.{operations_in, RawPatchBytes};
+ghost use Rattle.jsonptr_text_value.specs.Operations.{operations_in};
+ghost use Rattle.jsonptr_edit_in_text.specs.RawPatching.{RawPatchBytes};
 ghost use Rattle.jsonptr_edit_with_comments.specs.EditWithComments.{Becomes, EditsAs, IsWithCommentsError};
 ghost use Rattle.jsonptr_edit_with_comments.specs.Edits.{IsLaidOut};
 ghost use Rattle.jsonptr_edit_with_comments.specs.Patches.{PatchEdits};

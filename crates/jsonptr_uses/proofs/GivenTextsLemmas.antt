@@ -4,8 +4,9 @@ use Rattle.std.specs.declared.alloc.AllocError.{AllocError}
 use Rattle.std.specs.declared.alloc.Global.{Global}
 use Rattle.jsonptr.specs.Text.{Text}
 use Rattle.jsonptr_edit_in_text.specs.PatchInText.{PatchesInText}
-use Rattle.jsonptr_edit_in_text.specs.RawPatching.{operations_in, RawPatchBytes, IsGivenIn}
-use Rattle.jsonptr_edit_in_text.specs.declared.raw_operation.RawOperation.{RawOperation}
+use Rattle.jsonptr_text_value.specs.Operations.{operations_in, IsGivenIn}
+use Rattle.jsonptr_edit_in_text.specs.RawPatching.{RawPatchBytes}
+use Rattle.jsonptr_text_value.specs.declared.raw_operation.RawOperation.{RawOperation}
 
 -- the new text of the operations `rs`, whose texts are given in `patch`
 abbrev pub AsWritten : Text → Text → String Global → Type 0

@@ -1,8 +1,9 @@
 //! A patch document that is applied with the texts of its values, as somebody wrote them.
 ghost use Rattle.std.specs.Prelude.{List, All, IfOk, IfSome, string_bytes};
 ghost use Rattle.jsonptr_edit_in_text.specs.PatchInText.{PatchesInText};
-ghost use Rattle.jsonptr_edit_in_text.specs.RawPatching.{operations_in, RawPatchBytes, IsGivenIn};
-ghost use Rattle.jsonptr_edit_in_text.specs.declared.raw_operation.RawOperation.{RawOperation};
+ghost use Rattle.jsonptr_text_value.specs.Operations.{operations_in, IsGivenIn};
+ghost use Rattle.jsonptr_edit_in_text.specs.RawPatching.{RawPatchBytes};
+ghost use Rattle.jsonptr_text_value.specs.declared.raw_operation.RawOperation.{RawOperation};
 
 use jsonptr::Fault;
 use jsonptr_edit_in_text::{Buffers, RawOperation, raw_operations, try_apply_raw_in_place};

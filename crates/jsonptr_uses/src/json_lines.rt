@@ -5,7 +5,7 @@ ghost use Rattle.serde_json.specs.Data.{Data};
 ghost use Rattle.serde_json.specs.Read.{read};
 ghost use Rattle.jsonptr.specs.Pointer.{tokens};
 ghost use Rattle.jsonptr.specs.Text.{Text};
-ghost use Rattle.jsonptr_edit_in_text.specs.Carrying.{value_of_raw};
+ghost use Rattle.jsonptr_text_value.specs.Raw.{value_of_raw};
 ghost use Rattle.jsonptr_io.specs.Lines.{AreLines};
 ghost use Rattle.jsonptr_io.specs.Streams.{ForInput};
 ghost use Rattle.jsonptr_paths.specs.Listing.{Lists};

@@ -11,10 +11,10 @@ ghost use Rattle.jptr_tasks.specs.declared.layout.Layout.TheVariants.{Kept};
 use jptr_tasks::inverse::inverse_of;
 use jptr_tasks::laws::printed_inverse_law;
 use jptr_tasks::layout::Layout;
-use jptr_tasks::raw_patch::RawPatch;
 use jptr_tasks::result::result_in_text;
 use jptr_tasks::task::Task;
 use jptr_tasks::task_error::TaskError;
+use jsonptr_text_value::PatchText;
 use std::alloc::Global;
 
 /// The text of a document after a patch, and the text of a patch that takes it back.
@@ -32,7 +32,7 @@ pub struct PatchedText {
 /// # Errors
 ///
 /// Those of [`inverse_of`] and of [`Task::Patch`].
-pub fn patched_text(alloc: Global, text: &str, patch: RawPatch) -> Result<PatchedText, TaskError>
+pub fn patched_text(alloc: Global, text: &str, patch: PatchText) -> Result<PatchedText, TaskError>
     ensures applied { IfOk result (λ p.
         PatchesBytesInLayout text.now (view patch.document) Kept (string_bytes p.new)) }
     ensures carries { IfOk result (λ p.

@@ -1,7 +1,7 @@
 use Rattle.jsonptr.specs.Pointer.{tokens}
 use Rattle.jsonptr.specs.Json.{nodes}
 use Rattle.jsonptr_edit_in_text.specs.EditInText.{edited_text, AssignsInText}
-use Rattle.jsonptr_edit_in_text.specs.Carrying.{value_of_raw}
+use Rattle.jsonptr_text_value.specs.Raw.{value_of_raw}
 use Rattle.jptr_tasks.proofs.ResultLemmas.{remade}
 use Rattle.jptr_tasks.proofs.edit.set_anew.Goals as goal
 

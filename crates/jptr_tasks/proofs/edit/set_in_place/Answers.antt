@@ -1,6 +1,6 @@
 use Rattle.std.proofs.Common.{string_bytes}
 use Rattle.jsonptr.specs.Pointer.{tokens}
-use Rattle.jsonptr_edit_in_text.specs.Carrying.{value_of_raw}
+use Rattle.jsonptr_text_value.specs.Raw.{value_of_raw}
 use Rattle.jptr_tasks.proofs.ResultLemmas.{set_kept, set_fails}
 use Rattle.jptr_tasks.proofs.edit.set_in_place.Goals as goal
 

@@ -1,7 +1,7 @@
 use Rattle.std.proofs.Common.{List, string_bytes, subst}
 use Rattle.jsonptr_edit_in_text.specs.PatchInText.{PatchesInText}
-use Rattle.jsonptr_edit_in_text.specs.RawPatching.{operations_in}
-use Rattle.jsonptr_edit_in_text.specs.declared.raw_operation.RawOperation.{RawOperation}
+use Rattle.jsonptr_text_value.specs.Operations.{operations_in}
+use Rattle.jsonptr_text_value.specs.declared.raw_operation.RawOperation.{RawOperation}
 use Rattle.jptr_tasks.proofs.patch.patched.Goals as goal
 
 pub returns-in-Some-clause-applied : goal.returns-in-Some-clause-applied

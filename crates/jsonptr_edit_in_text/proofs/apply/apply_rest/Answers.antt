@@ -4,11 +4,12 @@ use Rattle.std.proofs.lemmas.List.{take_more}
 use Rattle.jsonptr_patch.specs.declared.operation.Operation.{Operation}
 use Rattle.jsonptr_edit_in_text.specs.PatchInText.{PatchesInText}
 use Rattle.jsonptr_edit_in_text.specs.PrivateOperating.{OperatesInText}
-use Rattle.jsonptr_edit_in_text.specs.RawPatching.{operations_in, GivenBytes, RawPatchBytes}
-use Rattle.jsonptr_edit_in_text.specs.declared.raw_operation.RawOperation.{RawOperation}
+use Rattle.jsonptr_text_value.specs.Operations.{operations_in}
+use Rattle.jsonptr_edit_in_text.specs.RawPatching.{GivenBytes, RawPatchBytes}
+use Rattle.jsonptr_text_value.specs.declared.raw_operation.RawOperation.{RawOperation}
 use Rattle.jsonptr_edit_in_text.proofs.OperatingLemmas.{patches_more}
 use Rattle.jsonptr_edit_in_text.proofs.RawLemmas.{raw_bytes_push}
-use Rattle.jsonptr_edit_in_text.proofs.RawListLemmas.{operations_push}
+use Rattle.jsonptr_text_value.proofs.ListLemmas.{operations_push}
 use Rattle.jsonptr_edit_in_text.proofs.apply.apply_rest.Goals as goal
 
 pub operations-init : goal.operations-init

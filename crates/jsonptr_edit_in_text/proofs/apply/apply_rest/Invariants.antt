@@ -2,7 +2,8 @@ use Rattle.std.proofs.Common.{◌≡◌, Some, take, string_bytes}
 use Rattle.serde_json.specs.Data.{Data}
 use Rattle.serde_json.specs.Read.{read}
 use Rattle.jsonptr_edit_in_text.specs.PatchInText.{PatchesInText}
-use Rattle.jsonptr_edit_in_text.specs.RawPatching.{operations_in, RawPatchBytes}
+use Rattle.jsonptr_text_value.specs.Operations.{operations_in}
+use Rattle.jsonptr_edit_in_text.specs.RawPatching.{RawPatchBytes}
 use Rattle.jsonptr_edit_in_text.proofs.apply.apply_rest.Given as goal
 
 abbrev pub invariant-operations : goal.invariant-operations

@@ -3,8 +3,9 @@ use Rattle.std.specs.declared.alloc.Global.{Global}
 use Rattle.jsonptr.specs.Text.{Text}
 use Rattle.jsonptr_edit_in_text.specs.PatchInText.{PatchesInText}
 use Rattle.jsonptr_edit_in_text.specs.PrivateOperating.{OperatesInText}
-use Rattle.jsonptr_edit_in_text.specs.RawPatching.{operations_in, GivenBytes, RawPatchBytes}
-use Rattle.jsonptr_edit_in_text.specs.declared.raw_operation.RawOperation.{RawOperation}
+use Rattle.jsonptr_text_value.specs.Operations.{operations_in}
+use Rattle.jsonptr_edit_in_text.specs.RawPatching.{GivenBytes, RawPatchBytes}
+use Rattle.jsonptr_text_value.specs.declared.raw_operation.RawOperation.{RawOperation}
 use Rattle.jsonptr_edit_in_text.proofs.EditLemmas.{if_new}
 use Rattle.jsonptr_edit_in_text.proofs.OperatingLemmas.{patches_first}
 use Rattle.jsonptr_edit_in_text.proofs.apply.try_apply_raw_in_place.Goals as goal

@@ -3,15 +3,17 @@ use Rattle.jsonptr.specs.Pointer.{tokens}
 use Rattle.jsonptr.specs.Json.{nodes}
 use Rattle.jsonptr_json_edits.specs.declared.value_text.ValueText.{ValueText}
 use Rattle.jsonptr_edit_in_text.specs.EditInText.{AssignsInText}
-use Rattle.jsonptr_edit_in_text.specs.PrivateReaching.{IsExpanded, ReachedInText, MemberAdded, ElementAppended}
+use Rattle.jsonptr_text_value.specs.Wrapping.{IsExpanded}
+use Rattle.jsonptr_edit_in_text.specs.PrivateReaching.{ReachedInText, MemberAdded, ElementAppended}
 use Rattle.jsonptr_edit_in_text.proofs.EditLemmas.{if_new, of_member, assigns_member, of_element, assigns_end}
 use Rattle.jsonptr_edit_in_text.specs.Bytes.{AddsExpandedBytes}
 use Rattle.jsonptr_edit_in_text.specs.PrivateReaching.{AddsByText}
 use Rattle.json.specs.Lex.{tokens as lexed}
-use Rattle.jsonptr_edit_in_text.specs.Carrying.{value_of_raw, Carries}
-use Rattle.jsonptr_edit_in_text.specs.PrivateWrapping.{wrapped}
+use Rattle.jsonptr_text_value.specs.Raw.{value_of_raw}
+use Rattle.jsonptr_edit_in_text.specs.Carrying.{Carries}
+use Rattle.jsonptr_text_value.specs.Wrapping.{wrapped}
 use Rattle.jsonptr_edit_in_text.proofs.BytesLemmas.{adds_expanded_bytes}
-use Rattle.jsonptr_edit_in_text.proofs.WrappingLemmas.{carries_wrapped}
+use Rattle.jsonptr_edit_in_text.proofs.CarryingLemmas.{carries_wrapped}
 use Rattle.jsonptr_edit_in_text.proofs.assign.assign_child.Goals as goal
 
 pub returns-then-starts_with-clause-assigned : goal.returns-then-starts_with-clause-assigned

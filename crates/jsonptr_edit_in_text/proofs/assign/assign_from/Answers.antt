@@ -2,7 +2,7 @@ use Rattle.std.proofs.Common.{◌≡◌, ◌++◌, [], List, IfOk, IfSome, inl, 
 use Rattle.jsonptr.specs.Text.{Text}
 use Rattle.jsonptr.specs.Pointer.{tokens}
 use Rattle.jsonptr.specs.Json.{nodes}
-use Rattle.jsonptr_edit_in_text.specs.Carrying.{value_of_raw}
+use Rattle.jsonptr_text_value.specs.Raw.{value_of_raw}
 use Rattle.jsonptr_edit_in_text.specs.EditInText.{AssignsInText}
 use Rattle.jsonptr_edit_in_text.specs.Bytes.{ReplacesBytes, ExpandsBytes, AddsExpandedBytes, AssignsBytes}
 use Rattle.jsonptr_edit_in_text.proofs.EditLemmas.{if_new}

@@ -5,15 +5,17 @@ use Rattle.jsonptr.specs.Expansion.{expanded}
 use Rattle.jsonptr.specs.Json.{nodes}
 use Rattle.jsonptr_json_edits.specs.declared.value_text.ValueText.{ValueText}
 use Rattle.jsonptr_edit_in_text.specs.EditInText.{AssignsInText}
-use Rattle.jsonptr_edit_in_text.specs.PrivateReaching.{IsExpanded, ReachedInText, ScalarBecomes}
+use Rattle.jsonptr_text_value.specs.Wrapping.{IsExpanded}
+use Rattle.jsonptr_edit_in_text.specs.PrivateReaching.{ReachedInText, ScalarBecomes}
 use Rattle.jsonptr_edit_in_text.proofs.EditLemmas.{if_new, of_scalar, assigns_scalar}
 use Rattle.jsonptr_edit_in_text.specs.Bytes.{ExpandsBytes}
 use Rattle.jsonptr_edit_in_text.specs.PrivateReaching.{ReplacesScalarByText}
 use Rattle.json.specs.Lex.{tokens as lexed}
-use Rattle.jsonptr_edit_in_text.specs.Carrying.{value_of_raw, Carries}
-use Rattle.jsonptr_edit_in_text.specs.PrivateWrapping.{wrapped}
+use Rattle.jsonptr_text_value.specs.Raw.{value_of_raw}
+use Rattle.jsonptr_edit_in_text.specs.Carrying.{Carries}
+use Rattle.jsonptr_text_value.specs.Wrapping.{wrapped}
 use Rattle.jsonptr_edit_in_text.proofs.BytesLemmas.{expands}
-use Rattle.jsonptr_edit_in_text.proofs.WrappingLemmas.{carries_wrapped}
+use Rattle.jsonptr_edit_in_text.proofs.CarryingLemmas.{carries_wrapped}
 use Rattle.jsonptr_edit_in_text.proofs.assign.assign_scalar.Goals as goal
 
 pub returns-clause-assigned : goal.returns-clause-assigned

@@ -2,12 +2,14 @@ use Rattle.std.proofs.Common.{string_bytes}
 use Rattle.jsonptr.specs.Pointer.{tokens}
 use Rattle.jsonptr.specs.Json.{nodes}
 use Rattle.jsonptr_edit_in_text.specs.Bytes.{ReplacesBytes}
-use Rattle.jsonptr_edit_in_text.specs.Carrying.{value_of_raw, Carries}
+use Rattle.jsonptr_text_value.specs.Raw.{value_of_raw}
+use Rattle.jsonptr_edit_in_text.specs.Carrying.{Carries}
 use Rattle.jsonptr_edit_in_text.specs.EditInText.{AssignsInText}
 use Rattle.jsonptr_edit_in_text.specs.PrivateReaching.{ReachedInText, Becomes, ReplacesByText}
 use Rattle.jsonptr_edit_in_text.proofs.EditLemmas.{if_new, of_value}
 use Rattle.jsonptr_edit_in_text.proofs.BytesLemmas.{replaces_value}
-use Rattle.jsonptr_edit_in_text.proofs.WrappingLemmas.{raw_reads, carries_all}
+use Rattle.jsonptr_text_value.proofs.WrappingLemmas.{raw_reads}
+use Rattle.jsonptr_edit_in_text.proofs.CarryingLemmas.{carries_all}
 use Rattle.jsonptr_edit_in_text.proofs.assign.assign_there.Goals as goal
 
 pub returns-clause-assigned : goal.returns-clause-assigned

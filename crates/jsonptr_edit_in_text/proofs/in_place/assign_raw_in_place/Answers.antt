@@ -1,6 +1,6 @@
 use Rattle.std.proofs.Common.{Result, String, IfErr, sym, subst}
 use Rattle.std.specs.declared.alloc.Global.{Global}
-use Rattle.jsonptr_edit_in_text.specs.Carrying.{value_of_raw}
+use Rattle.jsonptr_text_value.specs.Raw.{value_of_raw}
 use Rattle.jsonptr.specs.Pointer.{tokens}
 use Rattle.jsonptr.specs.Json.{nodes}
 use Rattle.jsonptr.specs.declared.assign.Error.{Error}

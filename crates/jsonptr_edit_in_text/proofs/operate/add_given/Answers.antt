@@ -5,7 +5,7 @@ use Rattle.serde_json.specs.View.{view}
 use Rattle.jsonptr.specs.Pointer.{tokens}
 use Rattle.jsonptr.specs.Json.{nodes}
 use Rattle.jsonptr_json_edits.specs.declared.value_text.ValueText.{ValueText}
-use Rattle.jsonptr_edit_in_text.specs.Carrying.{value_of_raw}
+use Rattle.jsonptr_text_value.specs.Raw.{value_of_raw}
 use Rattle.jsonptr_edit_in_text.specs.PatchInText.{AddsAtBytes}
 use Rattle.jsonptr_edit_in_text.specs.PrivateOperating.{AddsInText, AddsValueInText, AddsAtByText}
 use Rattle.jsonptr_edit_in_text.specs.RawPatching.{AddsGiven}
@@ -13,7 +13,7 @@ use Rattle.jsonptr_edit_in_text.proofs.BytesLemmas.{adds_given, adds_value_at}
 use Rattle.jsonptr_edit_in_text.proofs.EditLemmas.{if_new}
 use Rattle.jsonptr_edit_in_text.proofs.OperatingLemmas.{adds_value}
 use Rattle.jsonptr_edit_in_text.proofs.RawLemmas.{text_is, adds_some, adds_none}
-use Rattle.jsonptr_edit_in_text.proofs.WrappingLemmas.{raw_reads}
+use Rattle.jsonptr_text_value.proofs.WrappingLemmas.{raw_reads}
 use Rattle.jsonptr_edit_in_text.proofs.operate.add_given.Goals as goal
 
 pub returns-in-Some-clause-added : goal.returns-in-Some-clause-added

@@ -7,7 +7,7 @@ use Rattle.jsonptr_patch.specs.declared.operation.Operation.{Operation}
 use Rattle.jsonptr_patch.specs.declared.operation.Operation.TheVariants.{Remove}
 use Rattle.jsonptr_edit_in_text.specs.Bytes.{DeletesBytes}
 use Rattle.jsonptr_edit_in_text.specs.EditInText.{DeletesInText}
-use Rattle.jsonptr_edit_in_text.specs.Fitting.{HasFittingText}
+use Rattle.jsonptr_text_value.specs.Fitting.{HasFittingText}
 use Rattle.jsonptr_edit_in_text.specs.PatchInText.{MovesBytes, CopiesBytes}
 use Rattle.jsonptr_edit_in_text.specs.PrivateOperating.{OperatesInText, AddsValueInText, PutsInText}
 use Rattle.jsonptr_edit_in_text.specs.RawPatching.{AddsGiven, ReplacesGiven, GivenBytes}

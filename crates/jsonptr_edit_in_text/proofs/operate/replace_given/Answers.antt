@@ -6,7 +6,7 @@ use Rattle.jsonptr.specs.Pointer.{tokens}
 use Rattle.jsonptr.specs.Json.{nodes}
 use Rattle.jsonptr_json_edits.specs.declared.value_text.ValueText.{ValueText}
 use Rattle.jsonptr_edit_in_text.specs.Bytes.{ReplacesBytes}
-use Rattle.jsonptr_edit_in_text.specs.Carrying.{value_of_raw}
+use Rattle.jsonptr_text_value.specs.Raw.{value_of_raw}
 use Rattle.jsonptr_edit_in_text.specs.PrivateOperating.{PutsInText}
 use Rattle.jsonptr_edit_in_text.specs.PrivateReaching.{ReachedInText, Becomes, ReplacesByText}
 use Rattle.jsonptr_edit_in_text.specs.RawPatching.{ReplacesGiven}
@@ -14,7 +14,7 @@ use Rattle.jsonptr_edit_in_text.proofs.BytesLemmas.{replaces_given, replaces_val
 use Rattle.jsonptr_edit_in_text.proofs.EditLemmas.{if_new}
 use Rattle.jsonptr_edit_in_text.proofs.OperatingLemmas.{puts}
 use Rattle.jsonptr_edit_in_text.proofs.RawLemmas.{text_is, replaces_some, replaces_none}
-use Rattle.jsonptr_edit_in_text.proofs.WrappingLemmas.{raw_reads}
+use Rattle.jsonptr_text_value.proofs.WrappingLemmas.{raw_reads}
 use Rattle.jsonptr_edit_in_text.proofs.operate.replace_given.Goals as goal
 
 pub returns-in-Some-clause-put : goal.returns-in-Some-clause-put

@@ -2,10 +2,11 @@ use Rattle.std.proofs.Common.{◌≡◌, ◌+◌, List, [], ◌∷◌, ◌++◌,
 use Rattle.std.specs.declared.alloc.Global.{Global}
 use Rattle.std.proofs.lemmas.List.{take_more}
 use Rattle.jsonptr_patch.specs.declared.operation.Operation.{Operation}
-use Rattle.jsonptr_edit_in_text.specs.RawPatching.{operations_in}
-use Rattle.jsonptr_edit_in_text.specs.declared.raw_operation.RawOperation.{RawOperation}
+use Rattle.jsonptr_text_value.specs.Operations.{operations_in}
+use Rattle.jsonptr_text_value.specs.declared.raw_operation.RawOperation.{RawOperation}
 use Rattle.jsonptr_edit_with_comments.specs.Patches.{OperationEdits, PatchEdits}
-use Rattle.jsonptr_edit_with_comments.proofs.PatchLemmas.{operations_push, edits_push}
+use Rattle.jsonptr_text_value.proofs.ListLemmas.{operations_push}
+use Rattle.jsonptr_edit_with_comments.proofs.PatchLemmas.{edits_push}
 use Rattle.jsonptr_edit_with_comments.proofs.apply.all_edits.Goals as goal
 
 pub operations-preserved : goal.operations-preserved

@@ -1,5 +1,5 @@
 use Rattle.std.proofs.Common.{take, string_bytes}
-use Rattle.jsonptr_edit_in_text.specs.RawPatching.{operations_in}
+use Rattle.jsonptr_text_value.specs.Operations.{operations_in}
 use Rattle.jsonptr_edit_with_comments.specs.Patches.{PatchEdits}
 use Rattle.jsonptr_edit_with_comments.proofs.apply.all_edits.Given as goal
 

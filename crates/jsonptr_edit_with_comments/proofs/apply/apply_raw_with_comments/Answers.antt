@@ -3,7 +3,7 @@ use Rattle.std.proofs.lemmas.Result.{err_from_is_err_and}
 use Rattle.jsonptr.specs.Text.{Text}
 use Rattle.jsonptr_comments.specs.Comments.{IsWithoutComments}
 use Rattle.jsonptr_edit_in_text.specs.PatchInText.{PatchesInText, IsPatchError}
-use Rattle.jsonptr_edit_in_text.specs.RawPatching.{operations_in}
+use Rattle.jsonptr_text_value.specs.Operations.{operations_in}
 use Rattle.jsonptr_edit_with_comments.proofs.EditLemmas.{refused}
 use Rattle.jsonptr_edit_with_comments.proofs.apply.apply_raw_with_comments.Goals as goal
 

@@ -3,7 +3,8 @@ use Rattle.std.specs.Cow.{cow_str_bytes}
 use Rattle.jsonptr.specs.Text.{Text}
 use Rattle.jsonptr_comments.specs.Comments.{IsWithoutComments}
 use Rattle.jsonptr_edit_in_text.specs.PatchInText.{PatchesInText}
-use Rattle.jsonptr_edit_in_text.specs.RawPatching.{operations_in, RawPatchBytes}
+use Rattle.jsonptr_text_value.specs.Operations.{operations_in}
+use Rattle.jsonptr_edit_in_text.specs.RawPatching.{RawPatchBytes}
 use Rattle.jsonptr_edit_with_comments.proofs.PatchLemmas.{patched, edited_as}
 use Rattle.jsonptr_edit_with_comments.proofs.apply.try_apply_raw_with_comments.Goals as goal
 

@@ -4,7 +4,7 @@ use Rattle.jsonptr.specs.Text.{Text}
 use Rattle.jsonptr.specs.Pointer.{tokens}
 use Rattle.jsonptr.specs.Json.{nodes}
 use Rattle.jsonptr_comments.specs.Comments.{IsWithoutComments}
-use Rattle.jsonptr_edit_in_text.specs.Carrying.{value_of_raw}
+use Rattle.jsonptr_text_value.specs.Raw.{value_of_raw}
 use Rattle.jsonptr_edit_in_text.specs.EditInText.{AssignsInText, IsAssignError}
 use Rattle.jsonptr_edit_with_comments.proofs.EditLemmas.{refused}
 use Rattle.jsonptr_edit_with_comments.proofs.assign.assign_raw_with_comments.Goals as goal

@@ -1,7 +1,8 @@
 use Rattle.std.proofs.Common.{List, All, IfOk, IfSome, string_bytes, subst}
 use Rattle.jsonptr_edit_in_text.specs.PatchInText.{PatchesInText}
-use Rattle.jsonptr_edit_in_text.specs.RawPatching.{operations_in, RawPatchBytes, IsGivenIn}
-use Rattle.jsonptr_edit_in_text.specs.declared.raw_operation.RawOperation.{RawOperation}
+use Rattle.jsonptr_text_value.specs.Operations.{operations_in, IsGivenIn}
+use Rattle.jsonptr_edit_in_text.specs.RawPatching.{RawPatchBytes}
+use Rattle.jsonptr_text_value.specs.declared.raw_operation.RawOperation.{RawOperation}
 use Rattle.jsonptr_uses.proofs.GivenTextsLemmas.{as_written}
 use Rattle.jsonptr_uses.proofs.given_texts.patched_as_written.Goals as goal
 

@@ -1,5 +1,0 @@
-use Rattle.std.proofs.Common.{length}
-use Rattle.jsonptr_edit_in_text.proofs.spans.spans_in.Given as goal
-
-abbrev pub decreases-operations : goal.decreases-operations
-decreases-operations l = length l.reader

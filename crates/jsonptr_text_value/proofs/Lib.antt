@@ -1,0 +1,3 @@
+pub mod FittingLemmas
+pub mod ListLemmas
+pub mod WrappingLemmas

@@ -1,0 +1,10 @@
+pub mod Additions
+pub mod DataSet
+pub mod Fitting
+pub mod Operations
+pub mod Patches
+pub mod PrivateAdditions
+pub mod PrivateFitting
+pub mod PrivatePatches
+pub mod Raw
+pub mod Wrapping
