@@ -28,6 +28,7 @@ OTHERS = {
             "as_ptr", "set_text", "push_front", "push_back", "pop_front", "pop_back", "replace", "append", "clear",
         ]),
     ],
+    "fragments of URIs": [("jsonptr_fragment/src/write.rt", ["to_fragment"]), ("jsonptr_fragment/src/read.rt", ["from_fragment"])],
     "patches": [
         ("jsonptr_patch/src/patch.rt", ["apply"]),
         ("jsonptr_patch/src/inverse.rt", ["apply_with_inverse"]),

@@ -1,0 +1,6 @@
+-- Lemmas on fragments.
+mod EncodingLemmas
+mod ErrorLaws
+mod SetLemmas
+mod UnitLemmas
+mod ReadLemmas
