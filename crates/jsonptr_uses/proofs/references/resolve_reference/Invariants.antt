@@ -4,4 +4,4 @@ use Rattle.jsonptr_uses.specs.References.{Follows}
 use Rattle.jsonptr_uses.proofs.references.resolve_reference.Given as goal
 
 abbrev pub invariant-loop-turn : goal.invariant-loop-turn
-invariant-loop-turn l = Follows (view l.document) (tokens l.fn.pointer) l._turn (tokens l.current)
+invariant-loop-turn l = Follows (view l.document) (tokens l.fn.pointer) l._turn l.current
