@@ -3,3 +3,5 @@ pub mod SameLemmas
 pub mod ChangingLemmas
 pub mod FailingLemmas
 pub mod PieceLemmas
+pub mod PairLemmas
+pub mod MadeLemmas

@@ -1,9 +1,9 @@
 //! Whether a piece of a text reads, alone, as one value.
-ghost use Rattle.std.specs.Prelude.{◌≡◌, IsTrue, IfOk};
+ghost use Rattle.std.specs.Prelude.{◌≡◌, ◌++◌, IsTrue, IfOk, string_bytes};
 ghost use Rattle.toml.specs.Data.{table, no_members};
 ghost use Rattle.toml.specs.View.{view};
 ghost use Rattle.jsonptr.specs.Pointer.{tokens};
-ghost use Rattle.jsonptr_edit_in_toml.specs.Bytes.{IsFiller, IsComma, HaveOneTomlComma, EndsAs, HoldsAlone, IsAlone, IsOneTomlChild};
+ghost use Rattle.jsonptr_edit_in_toml.specs.Bytes.{IsFiller, IsComma, HaveOneTomlComma, EndsAs, HoldsAlone, AreItemsOf, IsAlone, IsOneTomlChild};
 
 use crate::check::{is_document_of, is_text_of};
 use crate::plan::{Keys, TomlChild};
@@ -33,7 +33,7 @@ pub fn is_filler(alloc: Global, text: &str) -> Result<bool, AllocError>
 }
 
 /// Returns whether the text is a comma with white space, line breaks and comments around it.
-fn is_comma(alloc: Global, text: &str) -> Result<bool, AllocError>
+pub fn is_comma(alloc: Global, text: &str) -> Result<bool, AllocError>
     ensures { IfOk result (λ is. IsTrue is → IsComma text.now) }
 {
     let from = text.len().saturating_sub(skip_blank(text, true).len());
@@ -59,7 +59,7 @@ fn have_one_toml_comma(alloc: Global, lead: &str, trail: &str) -> Result<bool, A
 
 /// Returns whether both pointers are the root, or the keys end in the last token of the pointer or in
 /// `-`.
-fn ends_as(pointer: Pointer<'_>, keys: Pointer<'_>) -> bool
+pub fn ends_as(pointer: Pointer<'_>, keys: Pointer<'_>) -> bool
     ensures { IsTrue result → EndsAs (tokens pointer.entry) (tokens keys.entry) }
 {
     match (pointer.split_back(), keys.split_back()) {
@@ -91,6 +91,25 @@ pub fn holds(
     }
 }
 
+/// Returns whether the text is pairs and headers that hold the value at the keys, and nothing else, and
+/// the keys end as the pointer does.
+///
+/// # Errors
+///
+/// [`AllocError`] if an allocation fails.
+pub fn are_items_of(
+    alloc: Global,
+    text: &str,
+    pointer: Pointer<'_>,
+    keys: Pointer<'_>,
+    value: &Value,
+) -> Result<bool, AllocError>
+    ensures { IfOk result (λ are. IsTrue are
+        → AreItemsOf (tokens pointer.entry) (view value.now) text.now) }
+{
+    Ok(ends_as(pointer, keys) && holds(alloc, text, keys, value)?)
+}
+
 /// Returns whether the text is one of the value, or, if there are keys, holds the value at them and
 /// nothing else.
 ///
@@ -109,10 +128,7 @@ pub fn is_alone(
 {
     match keys {
         Keys::None => is_text_of(alloc, text, value),
-        Keys::Some(keys) => {
-            let keys = keys.as_ptr();
-            Ok(ends_as(pointer, keys) && holds(alloc, text, keys, value)?)
-        }
+        Keys::Some(keys) => are_items_of(alloc, text, pointer, keys.as_ptr(), value),
     }
 }
 
@@ -139,4 +155,19 @@ pub fn is_one_toml_child(
         return Ok(false);
     }
     have_one_toml_comma(alloc, cut.before, cut.after)
+}
+
+/// Returns the three texts, one after the other.
+///
+/// # Errors
+///
+/// [`AllocError`] if an allocation fails.
+pub fn joined(alloc: Global, lead: &str, middle: &str, rest: &str) -> Result<String, AllocError>
+    ensures { IfOk result (λ s. string_bytes s ≡ lead.now ++ (middle.now ++ rest.now)) }
+{
+    let mut piece = String::new(alloc);
+    piece.push_str(lead)?;
+    piece.push_str(middle)?;
+    piece.push_str(rest)?;
+    Ok(piece)
 }

@@ -1,5 +1,5 @@
 //! Assigning in a text.
-ghost use Rattle.std.specs.Prelude.{◌≡◌, ◌++◌, IfOk, IfErr, IfSome, IsSome, string_bytes};
+ghost use Rattle.std.specs.Prelude.{◌≡◌, IsTrue, IfOk, IfErr, IfSome, IsSome, string_bytes};
 ghost use Rattle.toml.specs.Data.{Data};
 ghost use Rattle.toml.specs.View.{view};
 ghost use Rattle.jsonptr.specs.Pointer.{tokens};
@@ -8,30 +8,34 @@ ghost use Rattle.jsonptr_in_toml.specs.InToml.{ReadsAsToml, AssignsAndPrintsToml
 ghost use Rattle.jsonptr_edit_in_text.specs.Bytes.{KeepsBytes};
 ghost use Rattle.jsonptr_edit_in_text.specs.EditInText.{edited_text};
 ghost use Rattle.jsonptr_edit_in_toml.specs.EditInToml.{AssignsInToml, IsPrinted};
-ghost use Rattle.jsonptr_edit_in_toml.specs.Bytes.{AssignsTomlBytes, IsAlone};
+ghost use Rattle.jsonptr_edit_in_toml.specs.Bytes.{AssignsTomlBytes, IsWholeText, ReplacesOne};
 ghost use Rattle.jsonptr_edit_in_toml.specs.Failing.{IsAssignInTomlError};
 
 use crate::add::plan_addition;
-use crate::alone::{is_alone, is_filler, is_one_toml_child};
-use crate::check::{has_deep_values, is_document_of};
+use crate::alone::{are_items_of, is_filler, is_one_toml_child, joined};
+use crate::check::{has_deep_values, is_document_of, is_text_of};
+use crate::open::make_alone;
 use crate::plan::{AdditionPlan, ReplacementPlan};
 use crate::replace::plan_replacement;
+use crate::run::is_run;
 use jsonptr::{Assign, Fault, Pointer, Resolve, assign};
 use jsonptr_edit_in_text::Edited;
 use jsonptr_in_toml::depth::{MAX_TOML_DEPTH, has_too_many_tokens, toml_nests_within};
 use jsonptr_in_toml::document::{print_toml, read_toml};
 use jsonptr_in_toml::{EditTomlError, PrintTomlError};
-use jsonptr_json_edits::cut::{cut_at, splice};
+use jsonptr_json_edits::cut::{Cut, cut_at, splice};
 use jsonptr_value::discard;
 use std::alloc::{AllocError, Global};
 use toml::Value;
+use toml_parser::bytes::is_word;
+use toml_parser::text::{byte_at, first};
 
 /// Assigns the value at the pointer in the document that the text contains, as
 /// [`Assign::assign`](jsonptr::assign::Assign) does.
 ///
-/// One piece of the text changes: a piece that reads as the value is replaced, or a member or an element
-/// is put in as its siblings are. All other bytes stay. That the piece is no more than the text of the
-/// value is tested. If that is not possible, the document is printed anew.
+/// One piece of the text changes: the text of the value is replaced, or the headers and dotted keys that
+/// make it, or a member or an element is put in as its siblings are. All other bytes stay. If that is not
+/// possible, the document is printed anew.
 ///
 /// Reads the old and the new text once each, scans the old one once more, and allocates for both
 /// documents.
@@ -129,10 +133,12 @@ fn candidate_of(
     match document.resolve(alloc, pointer) {
         Ok(found) => match plan_replacement(alloc, text, pointer, value)? {
             Some(plan) => {
-                if !is_alone(alloc, plan.piece.as_str(), pointer, &plan.new_keys, value)? {
-                    return Ok(None);
-                }
-                replaced(alloc, text, pointer, found, &plan)
+                let exchange = Exchange {
+                    pointer,
+                    old: found,
+                    new: value,
+                };
+                replaced(alloc, text, &exchange, &plan)
             }
             None => Ok(None),
         },
@@ -144,26 +150,72 @@ fn candidate_of(
     }
 }
 
-/// Returns the text with the text of the value that was found replaced, if the plan is right.
+/// A value that becomes another one.
+#[derive(Clone, Copy, Debug)]
+struct Exchange<'v> {
+    /// The pointer that resolves to it.
+    pointer: Pointer<'v>,
+    /// The value.
+    old: &'v Value,
+    /// The other value.
+    new: &'v Value,
+}
+
+/// Returns the text with the text of the old value, or what makes it, replaced, if the plan is right.
 fn replaced(
     alloc: Global,
     text: &str,
-    pointer: Pointer<'_>,
-    found: &Value,
+    exchange: &Exchange<'_>,
     plan: &ReplacementPlan,
 ) -> Result<Option<String>, AllocError>
-    ensures { (d v : Data) → ReadsAsToml text.now d → FindsValue d (tokens pointer.entry) (view found.now)
-        → IsAlone (tokens pointer.entry) v (string_bytes plan.now.piece)
-        → IfOk result (λ new. IfSome new
-        (λ s. AssignsTomlBytes text.now (tokens pointer.entry) v (string_bytes s))) }
+    ensures { (d : Data) → ReadsAsToml text.now d
+        → FindsValue d (tokens exchange.now.pointer) (view exchange.now.old.now)
+        → IfOk result (λ new. IfSome new (λ s. AssignsTomlBytes text.now
+        (tokens exchange.now.pointer) (view exchange.now.new.now) (string_bytes s))) }
 {
     let Some(cut) = cut_at(text, plan.span.from, plan.span.to) else {
         return Ok(None);
     };
-    if !is_alone(alloc, cut.middle, pointer, &plan.keys, found)? {
+    if !is_replacement(alloc, &cut, exchange, plan)? {
         return Ok(None);
     }
     Ok(Some(splice(alloc, &cut, plan.piece.as_str())?))
+}
+
+/// Returns whether the piece that is cut is the text of the old value, and the new one a text of the
+/// new value. Or, if headers or dotted keys make the old value, whether the piece is these, without
+/// what is above and below, and the new one pairs and headers that hold the new value.
+fn is_replacement(
+    alloc: Global,
+    cut: &Cut<'_>,
+    exchange: &Exchange<'_>,
+    plan: &ReplacementPlan,
+) -> Result<bool, AllocError>
+    ensures { IfOk result (λ is. IsTrue is
+        → ReplacesOne (tokens exchange.now.pointer) (view exchange.now.old.now)
+        (view exchange.now.new.now) cut.now.middle.now (string_bytes plan.now.piece)
+        cut.now.before.now cut.now.after.now) }
+{
+    let Exchange { pointer, old, new } = *exchange;
+    let piece = plan.piece.as_str();
+    match &plan.items {
+        None => Ok(is_whole_text(alloc, cut, old)? && is_text_of(alloc, piece, new)?),
+        Some(items) => Ok(
+            make_alone(alloc, cut.middle, pointer, items.old_keys.as_ptr(), old)?
+                && is_run(alloc, cut.middle, items.last)?
+                && are_items_of(alloc, piece, pointer, items.new_keys.as_ptr(), new)?,
+        ),
+    }
+}
+
+/// Returns whether the piece that is cut is a text of the value, and no number, date-time or word goes
+/// on beside it.
+fn is_whole_text(alloc: Global, cut: &Cut<'_>, value: &Value) -> Result<bool, AllocError>
+    ensures { IfOk result (λ is. IsTrue is → IsWholeText (view value.now) cut.now.middle.now
+        cut.now.before.now cut.now.after.now) }
+{
+    let last = byte_at(cut.before, cut.before.len().saturating_sub(1));
+    Ok(!is_word(last) && !is_word(first(cut.after)) && is_text_of(alloc, cut.middle, value)?)
 }
 
 /// Returns the text with a member or an element added, if the plan is right.
@@ -188,15 +240,4 @@ fn added(
         return Ok(None);
     }
     Ok(Some(splice(alloc, &cut, piece.as_str())?))
-}
-
-/// Returns the three texts, one after the other.
-fn joined(alloc: Global, lead: &str, middle: &str, rest: &str) -> Result<String, AllocError>
-    ensures { IfOk result (λ s. string_bytes s ≡ lead.now ++ (middle.now ++ rest.now)) }
-{
-    let mut piece = String::new(alloc);
-    piece.push_str(lead)?;
-    piece.push_str(middle)?;
-    piece.push_str(rest)?;
-    Ok(piece)
 }

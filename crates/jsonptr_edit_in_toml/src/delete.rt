@@ -11,8 +11,9 @@ ghost use Rattle.jsonptr_edit_in_toml.specs.EditInToml.{DeletesInToml, IsPrinted
 ghost use Rattle.jsonptr_edit_in_toml.specs.Bytes.{DeletesTomlBytes, IsEmptyToml, Empties};
 ghost use Rattle.jsonptr_edit_in_toml.specs.Failing.{IsDeleteInTomlError};
 
-use crate::alone::{empty_table, is_alone, is_one_toml_child};
+use crate::alone::{empty_table, is_alone};
 use crate::assign::choose;
+use crate::cut_out::is_one_removed;
 use crate::plan::{EmptiedParent, RemovalPlan};
 use crate::remove::plan_removal;
 use jsonptr::{Delete, Fault, Pointer, Resolve};
@@ -31,6 +32,9 @@ use toml::Value;
 /// A key goes with its line and the comment on it, and with one above it if no key follows. A table goes
 /// with its header, its lines and the comment above it, and an element with its comma or its line. All
 /// other bytes stay. If that is not possible, the document is printed anew.
+///
+/// The clause states which comments go with a key, a member of an inline table or an element. Which go
+/// with a table that has headers is tested.
 ///
 /// Reads the old and the new text once each, scans the old one once more, and allocates for both
 /// documents.
@@ -107,7 +111,7 @@ fn removed(
     let Some(cut) = cut_at(text, plan.span.from, plan.span.to) else {
         return Ok(None);
     };
-    if !is_one_toml_child(alloc, cut.middle, pointer, &plan.child, found)? {
+    if !is_one_removed(alloc, &cut, pointer, &plan.child, found)? {
         return Ok(None);
     }
     let Some(left) = &plan.left else {

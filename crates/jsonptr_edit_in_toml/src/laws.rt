@@ -8,6 +8,7 @@ ghost use Rattle.jsonptr.specs.declared.assign.Error.{Error};
 ghost use Rattle.jsonptr_in_toml.specs.declared.error.EditTomlError.{EditTomlError};
 ghost use Rattle.jsonptr_in_toml.specs.InToml.{LacksInToml};
 ghost use Rattle.jsonptr_edit_in_toml.specs.EditInToml.{DeletesInToml};
+ghost use Rattle.jsonptr_edit_in_toml.specs.Bytes.{MakeAlone, IsTomlContainer, IsWholeText, ReplacesOne};
 ghost use Rattle.jsonptr_edit_in_toml.specs.Failing.{IsAssignInTomlError, IsDeleteInTomlError, IsTomlOutOfMemory, AreOneError};
 
 use jsonptr_laws::assign::assign_law;
@@ -32,3 +33,12 @@ pub fn one_error_law()
 {
     assign_law();
 }
+
+/// States that headers and dotted keys make tables and arrays alone (`made`). So of each other value a
+/// replacement in place replaces exactly the text (`own_text`).
+pub fn own_text_law()
+    ensures made { (ts : List Text) (w : Data) (t : Text) → MakeAlone ts w t → IsTomlContainer w }
+    ensures own_text { (ts : List Text) (w v : Data) (middle piece before after : Text)
+        → (IsTomlContainer w → ⊥) → ReplacesOne ts w v middle piece before after
+        → IsWholeText w middle before after }
+{}

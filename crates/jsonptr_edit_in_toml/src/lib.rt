@@ -12,8 +12,16 @@
 //!
 //! Each call makes two promises. *Meaning*: the new text reads as the document that the call on
 //! documents makes of the document that the old text reads as. *Bytes*, in place: one piece of the text
-//! changes. What is replaced, put in or cut out reads, apart from a comma and comments beside it, as
-//! exactly the value. That all other comments and the layout stay is tested.
+//! changes.
+//!
+//! - A value that has a text, as after an equals sign, is replaced by a text: all else stays, also the
+//!   comments beside it.
+//! - A table or an array of tables is replaced with the headers and dotted keys that make it. All
+//!   that is above the first and below the last of these stays.
+//! - A pair, a member or an element is cut out with its line or a comma, and with no comments but those
+//!   before that comma, on its line, and, if no key follows, directly above. Which comments go with a
+//!   table that has headers is tested.
+//! - What is put in is one member or element, with at most one comma.
 //!
 //! In the examples `rt` is the runtime that `main` and each test receive, and `alloc` is
 //! `rt.alloc()`, the allocator.
@@ -23,6 +31,7 @@ mod add;
 mod alone;
 mod assign;
 mod check;
+mod cut_out;
 mod delete;
 mod in_place;
 mod inline;
@@ -30,11 +39,15 @@ mod inline_child;
 mod items;
 mod keys;
 pub mod laws;
+mod lines;
+mod open;
 mod outline;
+mod pair;
 mod piece;
 mod plan;
 mod remove;
 mod replace;
+mod run;
 mod same;
 mod skip;
 mod span;

@@ -26,12 +26,30 @@ pub struct TomlChild {
 pub struct ReplacementPlan {
     /// What is replaced.
     pub span: Span,
-    /// The keys of the old value.
-    pub keys: Keys,
     /// The new text.
     pub piece: String,
-    /// The keys of the new value.
-    pub new_keys: Keys,
+    /// What makes the old value, if headers or dotted keys do.
+    pub items: Option<ReplacedItems>,
+}
+
+/// Headers and pairs that are replaced.
+#[derive(Debug, Drop)]
+pub struct ReplacedItems {
+    /// The keys at which they hold the old value.
+    pub old_keys: PointerBuf,
+    /// The keys at which the new ones hold the new value.
+    pub new_keys: PointerBuf,
+    /// The last one.
+    pub last: LastItem,
+}
+
+/// The last header or pair of a piece of a text.
+#[derive(Clone, Copy, Debug)]
+pub struct LastItem {
+    /// The offset in the piece at which its line begins.
+    pub line: usize,
+    /// Where it is in its line.
+    pub span: Span,
 }
 
 /// The text of a member or an element that is added.
@@ -53,9 +71,18 @@ pub struct RemovalPlan {
     /// What is cut out.
     pub span: Span,
     /// The child in it.
-    pub child: TomlChild,
+    pub child: RemovedChild,
     /// The text of the table or array that is left, if nothing else mentions it.
     pub left: Option<EmptiedParent>,
+}
+
+/// A member or an element that is cut out.
+#[derive(Debug, Drop)]
+pub enum RemovedChild {
+    /// Where its pair, or its text, is in the piece.
+    Text(Span),
+    /// The keys at which the headers and pairs of the piece hold it.
+    Items(PointerBuf),
 }
 
 /// The text of a table or array that becomes empty.

@@ -3,7 +3,7 @@ use crate::inline::{InlineChild, InlineContainer, container_of};
 use crate::items::ItemKind;
 use crate::keys::{push_keys, push_pointer};
 use crate::outline::{ItemRun, Outline, Role, indent_of, outline_of};
-use crate::plan::{EmptiedParent, Keys, RemovalPlan, TomlChild};
+use crate::plan::{EmptiedParent, Keys, RemovalPlan, RemovedChild};
 use crate::span::{
     blank_lines_above, comments_above, ends_line, line_start, newline_of, next_line,
     skip_blank_lines, skip_blanks, skip_own_comments, text_start,
@@ -39,15 +39,12 @@ pub fn plan_removal(
     }
 }
 
-/// Returns the removal of whole lines.
-fn lines(span: Span, keys: PointerBuf, left: Option<EmptiedParent>) -> RemovalPlan {
-    let child = TomlChild {
-        span: Span {
-            from: 0,
-            to: span.to.saturating_sub(span.from),
-        },
-        keys: Keys::Some(keys),
-    };
+/// Returns the removal of what is at the span, with the child whose text is at the offsets.
+fn removal(span: Span, from: usize, to: usize, left: Option<EmptiedParent>) -> RemovalPlan {
+    let child = RemovedChild::Text(Span {
+        from: from.saturating_sub(span.from),
+        to: to.saturating_sub(span.from),
+    });
     RemovalPlan { span, child, left }
 }
 
@@ -62,7 +59,7 @@ fn remove_pair(
         return Ok(None);
     };
     let from = outline.table_of(index);
-    let keys = outline.last_keys(alloc, from)?;
+    let (key, value) = (item.key.from, item.value.to);
     let run = ItemRun {
         first: index,
         last: index,
@@ -74,10 +71,10 @@ fn remove_pair(
     if outline.is_mentioned(outline.count().saturating_sub(1), run)
         || from.saturating_add(1) >= outline.count()
     {
-        return Ok(Some(lines(with_comment(text, span), keys, None)));
+        return Ok(Some(removal(with_comment(text, span), key, value, None)));
     }
     let left = left_pair(alloc, text, outline, from, index)?;
-    Ok(Some(lines(span, keys, Some(left))))
+    Ok(Some(removal(span, key, value, Some(left))))
 }
 
 /// Returns the lines with the comment directly above them, if no key follows it directly once they are
@@ -160,8 +157,11 @@ fn remove_run(
         outline.header_keys(alloc, outline.count())?
     };
     if above <= from || outline.is_mentioned(above, run) {
-        let span = section(text, first.line, last.end);
-        return Ok(Some(lines(span, keys, None)));
+        return Ok(Some(RemovalPlan {
+            span: section(text, first.line, last.end),
+            child: RemovedChild::Items(keys),
+            left: None,
+        }));
     }
     let left = if is_pair || outline.is_element(above) {
         let table = if is_pair {
@@ -177,7 +177,11 @@ fn remove_run(
         from: first.line,
         to: last.end,
     };
-    Ok(Some(lines(span, keys, Some(left))))
+    Ok(Some(RemovalPlan {
+        span,
+        child: RemovedChild::Items(keys),
+        left: Some(left),
+    }))
 }
 
 /// Returns the lines of a section, with the comment above it, and the blank lines after it or, at the end
@@ -221,23 +225,8 @@ fn remove_child(
         return Ok(None);
     }
     let span = child_span(text, &container, &found.child);
-    let is_element = found.child.key.from == found.child.key.to;
-    let child = TomlChild {
-        span: Span {
-            from: found.child.whole.from.saturating_sub(span.from),
-            to: found.child.whole.to.saturating_sub(span.from),
-        },
-        keys: if is_element {
-            Keys::None
-        } else {
-            Keys::Some(outline.last_keys(alloc, container.count)?)
-        },
-    };
-    Ok(Some(RemovalPlan {
-        span,
-        child,
-        left: None,
-    }))
+    let whole = found.child.whole;
+    Ok(Some(removal(span, whole.from, whole.to, None)))
 }
 
 /// Returns what is cut out with a child: its line, if it has one of its own, or its comma.

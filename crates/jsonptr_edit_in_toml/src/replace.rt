@@ -5,7 +5,7 @@ use crate::items::{ItemKind, TomlItem};
 use crate::keys::{push_keys, push_pointer};
 use crate::outline::{ItemRun, Outline, Role, indent_of, outline_of};
 use crate::piece::{has_headers, section_text};
-use crate::plan::{Keys, ReplacementPlan};
+use crate::plan::{LastItem, ReplacedItems, ReplacementPlan};
 use crate::span::{newline_of, slice};
 use jsonptr::{Pointer, PointerBuf};
 use jsonptr_json_edits::locate::Span;
@@ -30,9 +30,8 @@ pub fn plan_replacement(
     if let Some(span) = value_span(alloc, text, &outline)? {
         return Ok(Some(ReplacementPlan {
             span,
-            keys: Keys::None,
             piece: value.to_string(alloc)?,
-            new_keys: Keys::None,
+            items: None,
         }));
     }
     match outline.run() {
@@ -98,9 +97,18 @@ fn replace_run(
     let is_last = !slice(text, span).ends_with('\n');
     Ok(Some(ReplacementPlan {
         span,
-        keys: Keys::Some(keys),
         piece: ended(alloc, piece, is_last)?,
-        new_keys: Keys::Some(new_keys),
+        items: Some(ReplacedItems {
+            old_keys: keys,
+            new_keys,
+            last: LastItem {
+                line: last.line.saturating_sub(first.line),
+                span: Span {
+                    from: last.key.from.saturating_sub(last.line),
+                    to: last.value.to.saturating_sub(last.line),
+                },
+            },
+        }),
     }))
 }
 
