@@ -87,11 +87,10 @@
  *             nor in a process that was forked while another thread was in a call.
  * Never       The library never prints, exits, aborts or waits.
  * Tested      What a call returns is proved, except for what docs/PROVED.md of
- *             the project lists as tested. Three things are tested: that of the
+ *             the project lists as tested. Two things are tested: that of the
  *             numbers that are read as doubles exactly those lose digits that the
- *             header says (1.10 loses none); that the bytes that are located are
- *             the value's own, and not those of an equal value elsewhere; that the
- *             value at an offset is the innermost one.
+ *             header says (1.10 loses none), and that the value at an offset is the
+ *             innermost one.
  *
  * WHAT THE CALLER MUST UPHOLD
  *

@@ -29,7 +29,7 @@ use Rattle.jsonptr.specs.declared.assign.Error as assign
 use Rattle.jsonptr_patch.specs.declared.operation.Operation.{Operation}
 use Rattle.jsonptr_patch_document.specs.Document.{IsPatch}
 use Rattle.jsonptr_text_value.specs.Raw.{value_of_raw}
-use Rattle.jsonptr_edit_in_text.specs.Carrying.{Carries}
+use Rattle.jsonptr_edit_in_text.specs.Giving.{AssignsGiven}
 use Rattle.jsonptr_edit_in_text.specs.PatchInText.{PatchesInText}
 use Rattle.jsonptr_text_value.specs.Operations.{operations_in}
 use Rattle.jsonptr_edit_in_text.specs.RawPatching.{RawPatchBytes}
@@ -54,7 +54,7 @@ use Rattle.jptr_tasks.specs.declared.task.Task.TheVariants.{Get, Set, Delete, Pa
 -- ---- edits in place
 
 pub set_kept : (text : Text) (ts : List Text) (raw : RawValue) (out : Text)
-    → AssignsInText text ts (nodes (value_of_raw raw)) out → AssignsBytes text ts (value_of_raw raw) out → Carries (string_bytes raw.printed.flat) out → StaysOneLine text out → Sets text ts raw Kept out
+    → AssignsInText text ts (nodes (value_of_raw raw)) out → AssignsBytes text ts (value_of_raw raw) out → AssignsGiven text ts raw out → StaysOneLine text out → Sets text ts raw Kept out
 set_kept text ts raw out meaning bytes carries line = (out, meaning, refl, λ e. (bytes, carries, line))
 
 pub patch_kept : (text : Text) (p : PatchText) (r : Result (String Global) TaskError)

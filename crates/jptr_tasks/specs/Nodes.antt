@@ -44,7 +44,7 @@ abbrev pub IsNoObject : Text → Type 0
 IsNoObject piece = (ts : List Token) → lex.tokens piece ≡ begin_object ∷ ts → ⊥
 
 -- `HasKeysAt text ts found`: `found` are the keys of the object that the tokens `ts` identify in the document of `text`, in the
--- order of a part of `text` that reads as this object. They identify no object if there are none
+-- order of its own text. They identify no object if there are none
 abbrev pub HasKeysAt : Text → List Text → Option (Vec (String Global) Global) → Type 0
 HasKeysAt text ts found =
     (before piece after : Text) × IsLocated text ts before piece after

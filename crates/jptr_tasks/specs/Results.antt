@@ -15,7 +15,7 @@ use Rattle.jsonptr_patch_document.specs.Document.{IsPatch, IsNoPatch}
 use Rattle.jsonptr_in_text.specs.InText.{FindsInText, RefusesInText}
 use Rattle.jsonptr_edit_in_text.specs.Bytes.{AssignsBytes, DeletesBytes}
 use Rattle.jsonptr_text_value.specs.Raw.{value_of_raw}
-use Rattle.jsonptr_edit_in_text.specs.Carrying.{Carries}
+use Rattle.jsonptr_edit_in_text.specs.Giving.{AssignsGiven}
 use Rattle.jsonptr_edit_in_text.specs.InPlace.{StaysOneLine}
 use Rattle.jsonptr_edit_in_text.specs.Locating.{IsLocated}
 use Rattle.jsonptr_edit_in_text.specs.EditInText.{AssignsInText, IsAssignError, DeletesInText, LacksInText}
@@ -42,13 +42,13 @@ Gets text ts fallback layout out =
     × (fallback ≡ Some other) × RefusesInText text ts e × ShowsInLayout layout (view other) out)
 
 -- `Sets text ts raw layout out`: `out` is the document of `text` with the value `raw` assigned at the tokens, in this layout. In
--- the layout `Kept` only the bytes of the assignment change, the new text carries the tokens of the value's own text, and a
+-- the layout `Kept` only the bytes of the assignment change, what is put there has the tokens of the value's own text, and a
 -- text of one line stays one line
 abbrev pub Sets : Text → List Text → RawValue → Layout → Text → Type 0
 Sets text ts raw layout out =
     (new : Text) × AssignsInText text ts (nodes (value_of_raw raw)) new × Lays layout new out
     × (layout ≡ Kept
-    → AssignsBytes text ts (value_of_raw raw) new × Carries (string_bytes raw.printed.flat) new × StaysOneLine text new)
+    → AssignsBytes text ts (value_of_raw raw) new × AssignsGiven text ts raw new × StaysOneLine text new)
 
 -- `DeletesInLayout text ts layout out`: `out` is the document of `text` without the value at the tokens, in this layout. In the
 -- layout `Kept` only the bytes of the deletion change, and a text of one line stays one line

@@ -70,8 +70,7 @@ pub fn length_in_text(
 }
 
 /// Returns the keys of the object that the pointer resolves to in the text of a document, one for each
-/// member, in the order of the text. Returns `None` for any other value. Which of two equal objects is
-/// read is tested.
+/// member, in the order of its text. Returns `None` for any other value.
 ///
 /// The keys are decoded. A repeated key comes as often as it is written. No document is built.
 ///

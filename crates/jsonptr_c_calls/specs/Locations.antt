@@ -12,7 +12,7 @@ use Rattle.jsonptr_c_calls.specs.declared.call_error.CallError.{CallError}
 use Rattle.jsonptr_c_calls.specs.declared.call_error.CallError.TheVariants.{NotLocated, NoValue}
 
 -- `LocatesInText t bytes start end`: the pointer `bytes` resolves to a value in the JSON text `t`, and the bytes of `t` from the
--- offset `start` up to `end` are a text of exactly that value
+-- offset `start` up to `end` are the text of that value
 abbrev pub LocatesInText : List ℕ → List ℕ → ℕ → ℕ → Type 0
 LocatesInText t bytes start end =
     (tokens : List Text) × (before piece after : Text) × HasTokens bytes tokens × IsLocated t tokens before piece after
@@ -33,15 +33,14 @@ IsNotLocated t bytes e =
     ⊎ ((tokens : List Text) × ParsesTo bytes tokens
     × (IsNotUtf8 argument.Text t e ⊎ (IsUtf8 t × LacksLocation t tokens e)))
 
--- `PointsAt t k bytes`: `bytes` are the pointer of a value of `t`, and the byte of `t` at the offset `k` is one of some that
--- read as it
+-- `PointsAt t k bytes`: `bytes` are the pointer of a value of `t`, and the byte of `t` at the offset `k` is one of its text
 abbrev pub PointsAt : List ℕ → ℕ → List ℕ → Type 0
 PointsAt t k bytes =
     (tokens : List Text) × (before piece after : Text) × HasTokens bytes tokens
     × IsLocatedAt t k tokens before piece after
 
--- `LacksPointerAt t k room e`: the byte of `t` at the offset `k` is none of some bytes that read as the document, or the pointer of
--- the value there is longer than `room` bytes, and `e` reports that
+-- `LacksPointerAt t k room e`: the byte of `t` at the offset `k` is none of the document's, or the pointer of a value there is
+-- longer than `room` bytes, and `e` reports that
 abbrev pub LacksPointerAt : List ℕ → ℕ → ℕ → CallError → Type 0
 LacksPointerAt t k room e =
     (IsOutside t k × (e ≡ NoValue k))

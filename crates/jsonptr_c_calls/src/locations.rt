@@ -55,10 +55,9 @@ pub fn locate(alloc: Global, text: &[u8], pointer: &[u8]) -> Result<TextSpan, Ca
     }
 }
 
-/// Copies the pointer of the value whose text contains the byte at the offset to the buffer, and
-/// returns its length. In a member whose key comes again it is a value around that member. That bytes
-/// around the offset read as the value is proved. That they are its own, and that it is the innermost
-/// one, is tested.
+/// Copies the pointer of a value whose text contains the byte at the offset to the buffer, and
+/// returns its length. It is the innermost one, except in a member whose key comes again: there it is a
+/// value around that member. That it is the innermost one is tested.
 ///
 /// # Errors
 ///

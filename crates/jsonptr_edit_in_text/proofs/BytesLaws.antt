@@ -9,40 +9,41 @@ use Rattle.jsonptr_io.specs.Lines.{IsOneLine}
 use Rattle.jsonptr_json_edits.specs.Spacing.{IsBlank, Splices}
 use Rattle.jsonptr_edit_in_text.specs.Bytes.{AddsPiece, CutsBytes, ReplacesBytes}
 
-turned : (old new middle piece : Text) → Splices old new middle piece → Splices new old piece middle
-turned old new middle piece h = record { before = h.before; after = h.after; old_is = h.new_is; new_is = h.old_is }
-
 pub put_back : (old new : Text) (tokens : List Text) (e : Data) (h : ReplacesBytes old new tokens e) → FindsInText new tokens e → ReplacesBytes new old tokens h.value
 put_back old new tokens e h found = record {
   middle = h.piece;
   piece = h.middle;
   value = e;
-  splices = turned old new h.middle h.piece h.splices;
+  splices = record { before = h.splices.before; after = h.splices.after; old_is = h.splices.new_is; new_is = h.splices.old_is };
   found = found;
   whole = h.made;
   made = h.whole;
+  was_at = h.is_at;
+  is_at = h.was_at;
 }
 
-pub cut_again : (old new : Text) (key : Option Text) (e : Data) → AddsPiece old new key e → (left blank : Text) × CutsBytes new left key e × IsBlank blank × Splices old left blank []
-cut_again old new key e h = (
+pub cut_again : (old new : Text) (tokens : List Text) (key : Option Text) (e : Data) → AddsPiece old new tokens key e → (left blank : Text) × CutsBytes new left tokens key e × IsBlank blank × Splices old left blank []
+cut_again old new tokens key e h = (
   h.splices.before ++ h.splices.after,
   h.middle,
   record {
     middle = h.piece;
     splices = record { before = h.splices.before; after = h.splices.after; old_is = h.splices.new_is; new_is = refl };
     child = h.child;
+    was_at = h.is_at;
   },
   h.blank,
   record { before = h.splices.before; after = h.splices.after; old_is = h.splices.old_is; new_is = refl },
 )
 
-pub added_again : (old new : Text) (key : Option Text) (v : Data) → CutsBytes old new key v → AddsPiece new old key v
-added_again old new key v h = record {
+pub added_again : (old new : Text) (tokens : List Text) (key : Option Text) (v : Data) → CutsBytes old new tokens key v → AddsPiece new old tokens key v
+added_again old new tokens key v h = record {
   middle = [];
   piece = h.middle;
-  splices = turned old new h.middle [] h.splices;
+  splices = record { before = h.splices.before; after = h.splices.after; old_is = h.splices.new_is; new_is = h.splices.old_is };
   blank = λ k d low. absurd (omega (arith, low));
   child = h.child;
+  is_at = h.was_at;
 }
 
 -- ---- one line

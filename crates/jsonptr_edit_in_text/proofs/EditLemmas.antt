@@ -24,12 +24,13 @@ use Rattle.jsonptr_in_text.proofs.SearchLemmas.{len_same, member_content}
 use Rattle.jsonptr_json_edits.specs.declared.edit.Child.{Child}
 use Rattle.jsonptr_json_edits.specs.declared.edit.Edit.{Edit}
 use Rattle.jsonptr_json_edits.specs.declared.edit.Edit.TheVariants as edit
-use Rattle.jsonptr_json_edits.specs.Editing.{AddsChosenMember, InsertsItem, InsertsMember, Makes}
+use Rattle.jsonptr_in_text.specs.Selecting.{AreChoicesOf}
+use Rattle.jsonptr_json_edits.specs.Editing.{AddsChosenMember, InsertsItem, InsertsMember, Makes, IsEdited}
 use Rattle.jsonptr_edit_in_text.specs.Bytes.{IsScalar}
 use Rattle.jsonptr_edit_in_text.specs.declared.replace.ValueEdit.{ValueEdit}
 use Rattle.jsonptr_edit_in_text.specs.EditInText.{AssignsInText}
 use Rattle.jsonptr_edit_in_text.specs.PrivateReaching.{ReachedInText, ReplacesCut, IsValueEdit, Becomes, ScalarBecomes, MemberAdded, ElementAppended}
-use Rattle.jsonptr_edit_in_text.proofs.ReachingLemmas.{reached_so, item_content, below, same_below, other_place, other_key}
+use Rattle.jsonptr_edit_in_text.proofs.ReachingLemmas.{reached_in_text, reached_so, item_content, below, same_below, other_place, other_key}
 use Rattle.jsonptr_text_value.proofs.WrappingLemmas.{same_data}
 
 pub label_there : (d at : Data) (w : Path) → content_at w (content d) ≡ Some (content at) → nodes d w ≡ Some (label_of (content at))
@@ -215,6 +216,11 @@ pub scalar_label : (c : Content) (a : Scalar) → c ≡ scalar a → (b : Scalar
 scalar_label c a h = (a, ap label_of h)
 
 -- ---- what an edit does, by the text of its value
+
+pub edited_reaches : (r : Result (Option (String Global)) AllocError) (old : Text) (tokens : List Text) (cs : List json_search.Choice) (edit : Edit) → AreChoicesOf tokens cs
+    → IfOk r (λ o. IfSome o (λ s. IsEdited old (string_bytes s) cs edit)) → IfOk r (λ o. IfSome o (λ s. ReachedInText old (string_bytes s) tokens (Makes edit)))
+edited_reaches r old tokens cs edit are h =
+    if_new r (λ s. IsEdited old (string_bytes s) cs edit) (λ s. ReachedInText old (string_bytes s) tokens (Makes edit)) (λ s k. reached_in_text old (string_bytes s) tokens cs (Makes edit) are k) h
 
 pub value_edit_reaches : (r : Result (Option (String Global)) AllocError) (old : Text) (tokens : List Text) (middle flat : Text) (made : ValueEdit) → IsValueEdit middle flat made
     → IfOk r (λ o. IfSome o (λ s. ReachedInText old (string_bytes s) tokens (Makes made.edit))) → IfOk r (λ o. IfSome o (λ s. ReachedInText old (string_bytes s) tokens (ReplacesCut middle flat)))

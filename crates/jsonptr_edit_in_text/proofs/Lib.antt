@@ -2,7 +2,6 @@ mod BytesLaws
 mod DeletionLemmas
 mod OperatingLemmas
 mod RewritingLemmas
-mod CarryingLemmas
 pub mod BytesLemmas
 pub mod EditLemmas
 pub mod InPlaceLemmas

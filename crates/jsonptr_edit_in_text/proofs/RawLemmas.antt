@@ -11,7 +11,7 @@ use Rattle.jsonptr_patch.specs.declared.operation.Operation.TheVariants.{Add, Re
 use Rattle.jsonptr_patch.specs.declared.failed_operation.FailedOperation.{FailedOperation}
 use Rattle.jsonptr_edit_in_text.specs.Bytes.{KeepsBytes, ReplacesBytes}
 use Rattle.jsonptr_text_value.specs.Raw.{value_of_raw}
-use Rattle.jsonptr_text_value.specs.Fitting.{IsRawTextOf, HasFittingText}
+use Rattle.jsonptr_text_value.specs.Fitting.{IsRawTextOf}
 use Rattle.jsonptr_edit_in_text.specs.PatchInText.{AddsAtBytes, OperationBytes, PatchBytes}
 use Rattle.jsonptr_text_value.specs.Operations.{operations_in}
 use Rattle.jsonptr_edit_in_text.specs.RawPatching.{AddsGiven, ReplacesGiven, GivenBytes, RawPatchBytes}

@@ -12,7 +12,8 @@ use Rattle.jsonptr_json_search.specs.Search.{items_count}
 use Rattle.jsonptr_in_text.specs.InText.{FindsInText}
 use Rattle.jsonptr_patch.specs.Adding.{MeansPlace}
 use Rattle.jsonptr_json_edits.specs.Spacing.{IsBlank, Splices}
-use Rattle.jsonptr_json_edits.specs.Child.{IsValueText, IsOneChild}
+use Rattle.jsonptr_json_edits.specs.Child.{IsValueText, IsOneChild, value_part}
+use Rattle.jsonptr_edit_in_text.specs.Placing.{IsAt}
 use Rattle.jsonptr_edit_in_text.specs.declared.edited.Edited.{Edited}
 use Rattle.jsonptr_edit_in_text.specs.declared.edited.Edited.TheVariants.{InPlace, Rewritten}
 
@@ -20,8 +21,8 @@ use Rattle.jsonptr_edit_in_text.specs.declared.edited.Edited.TheVariants.{InPlac
 abbrev pub IsScalar : Data → Type 0
 IsScalar d = (a : Scalar) × (label_of (content d) ≡ a_leaf a)
 
--- `ReplacesBytes old new tokens e`: `new` is the text `old` with a part that reads as the value that all of `tokens`
--- identify replaced by a text of the value `e`. Neither has white space around it
+-- `ReplacesBytes old new tokens e`: `new` is the text `old` with the text of the value that all of `tokens` identify replaced
+-- by a text of the value `e`, which they identify in `new`. Neither has white space around it
 pub record ReplacesBytes (old new : Text) (tokens : List Text) (e : Data) : Type 0 where
   pub middle : Text
   pub piece : Text
@@ -30,59 +31,69 @@ pub record ReplacesBytes (old new : Text) (tokens : List Text) (e : Data) : Type
   pub found : FindsInText old tokens value
   pub whole : IsValueText value middle
   pub made : IsValueText e piece
+  pub was_at : IsAt old tokens middle splices.after
+  pub is_at : IsAt new tokens piece splices.after
 
--- `ExpandsBytes old new front more v`: `tokens` lead no further than `front`, to a scalar, and a part that reads as it is
--- replaced by a text of `v` expanded by `more`
+-- `ExpandsBytes old new front more v`: `tokens` lead no further than `front`, to a scalar, and its text is replaced by a text of
+-- `v` expanded by `more`
 pub record ExpandsBytes (old new : Text) (front more : List Text) (v : Data) : Type 0 where
   pub whole : Data
   pub whole_is : nodes whole ≡ expanded more (nodes v)
   pub replaces : ReplacesBytes old new front whole
   pub scalar : IsScalar replaces.value
 
--- `AddsPiece old new key e`: `new` is the text `old` with the text of one child more, a member with the key or an element if
--- there is none, with the value `e`, at most one comma, and white space. Except for white space, no byte of `old` is replaced
-pub record AddsPiece (old new : Text) (key : Option Text) (e : Data) : Type 0 where
+-- `AddsPiece old new tokens key e`: `new` is the text `old` with the text of one child more, a member with the key or an element
+-- if there is none, with at most one comma, and white space. In `new`, `tokens` identify its value, `e`. Except for white
+-- space, no byte of `old` is replaced
+pub record AddsPiece (old new : Text) (tokens : List Text) (key : Option Text) (e : Data) : Type 0 where
   pub middle : Text
   pub piece : Text
   pub splices : Splices old new middle piece
   pub blank : IsBlank middle
   pub child : IsOneChild key e piece
+  pub is_at : IsAt new tokens (value_part key e piece child) (child.trail ++ splices.after)
 
 -- `LacksMember old front x`: `front` leads to an object that has no member with the key `x`
 abbrev pub LacksMember : Text → List Text → Text → Type 0
 LacksMember old front x = (ms : Members) × FindsInText old front (object ms) × (get_member x ms ≡ None)
 
 -- `HasPlace old front x`: `front` leads to an array, and `x` refers to an index of it, or to the one after its last element
-abbrev pub HasPlace : Text → List Text → Text → Type 0
-HasPlace old front x = (ds : Items) × FindsInText old front (array ds) × ((i : ℕ) × MeansPlace (items_count ds) x i)
+pub record HasPlace (old : Text) (front : List Text) (x : Text) : Type 0 where
+  pub ds : Items
+  pub found : FindsInText old front (array ds)
+  pub i : ℕ
+  pub means : MeansPlace (items_count ds) x i
 
 -- `AddsBytes old new front x e`: the text of one child is added to the value that `front` leads to: of a member with the key
 -- `x`, which was missing, or of an element
 abbrev pub AddsBytes : Text → Text → List Text → Text → Data → Type 0
 AddsBytes old new front x e =
-    (LacksMember old front x × AddsPiece old new (Some x) e) ⊎ (HasPlace old front x × AddsPiece old new None e)
+    (LacksMember old front x × AddsPiece old new (front ++ x ∷ []) (Some x) e)
+    ⊎ ((place : HasPlace old front x) × AddsPiece old new (front ++ dec place.i ∷ []) None e)
 
--- `child_piece old new front x e b`: what is put into the text `old`: the child, with a comma and white space
-abbrev pub child_piece : (old new : Text) (front : List Text) (x : Text) (e : Data) → AddsBytes old new front x e → Text
-child_piece old new front x e (inl b) = b.1.piece
-child_piece old new front x e (inr b) = b.1.piece
+-- `child_text old new front x e b`: the text of the value of the child
+abbrev pub child_text : (old new : Text) (front : List Text) (x : Text) (e : Data) → AddsBytes old new front x e → Text
+child_text old new front x e (inl b) = value_part (Some x) e b.1.piece b.1.child
+child_text old new front x e (inr b) = value_part None e b.1.piece b.1.child
 
 -- `AddsExpandedBytes old new front x rest v`: the same as `AddsBytes` with `v` expanded by the tokens after `x`
 abbrev pub AddsExpandedBytes : Text → Text → List Text → Text → List Text → Data → Type 0
 AddsExpandedBytes old new front x rest v = (e : Data) × (nodes e ≡ expanded rest (nodes v)) × AddsBytes old new front x e
 
--- `CutsBytes old new key v`: `new` is the text `old` without the text of one child, a member with the key or an element if
--- there is none, with the value `v`, at most one comma, and white space
-pub record CutsBytes (old new : Text) (key : Option Text) (v : Data) : Type 0 where
+-- `CutsBytes old new tokens key v`: `new` is the text `old` without the text of one child, a member with the key or an element
+-- if there is none, at most one comma, and white space. In `old`, `tokens` identify its value, `v`
+pub record CutsBytes (old new : Text) (tokens : List Text) (key : Option Text) (v : Data) : Type 0 where
   pub middle : Text
   pub splices : Splices old new middle []
   pub child : IsOneChild key v middle
+  pub was_at : IsAt old tokens (value_part key v middle child) (child.trail ++ splices.after)
 
--- `CutsInTurn x old mids new`: `new` comes from `old` by cutting out a member with the key `x` for each of the texts `mids`,
--- which are the texts before each cut, the last one first
-abbrev pub CutsInTurn : Text → Text → List Text → Text → Type 0
-CutsInTurn x old [] new = new ≡ old
-CutsInTurn x old (mid ∷ mids) new = CutsInTurn x old mids mid × ((v : Data) × CutsBytes mid new (Some x) v)
+-- `CutsInTurn front x old mids new`: `new` comes from `old` by cutting out, for each of the texts `mids`, the last member with
+-- the key `x` of the object to which `front` leads. They are the texts before each cut, the last one first
+abbrev pub CutsInTurn : List Text → Text → Text → List Text → Text → Type 0
+CutsInTurn front x old [] new = new ≡ old
+CutsInTurn front x old (mid ∷ mids) new =
+    CutsInTurn front x old mids mid × ((v : Data) × CutsBytes mid new (front ++ x ∷ []) (Some x) v)
 
 -- `CutsMembers old new front x`: `front` leads to an object, and its member with the key `x` is cut out, and then each one
 -- before it with the same key
@@ -93,10 +104,10 @@ pub record CutsMembers (old new : Text) (front : List Text) (x : Text) : Type 0 
   pub mids : List Text
   pub found : FindsInText old front (object ms)
   pub was : get_member x ms ≡ Some v
-  pub cuts : CutsBytes old first (Some x) v
-  pub again : CutsInTurn x first mids new
+  pub cuts : CutsBytes old first (front ++ x ∷ []) (Some x) v
+  pub again : CutsInTurn front x first mids new
 
--- `CutsElement old new front x`: `front` leads to an array, and an element that reads as the one at the index `x` is cut out
+-- `CutsElement old new front x`: `front` leads to an array, and its element at the index `x` is cut out
 pub record CutsElement (old new : Text) (front : List Text) (x : Text) : Type 0 where
   pub ds : Items
   pub i : ℕ
@@ -104,14 +115,14 @@ pub record CutsElement (old new : Text) (front : List Text) (x : Text) : Type 0 
   pub found : FindsInText old front (array ds)
   pub refers : x ≡ dec i
   pub was : get_item i ds ≡ Some v
-  pub cuts : CutsBytes old new None v
+  pub cuts : CutsBytes old new (front ++ x ∷ []) None v
 
 -- `CutsChild old new front x`: one of the two
 abbrev pub CutsChild : Text → Text → List Text → Text → Type 0
 CutsChild old new front x = CutsMembers old new front x ⊎ CutsElement old new front x
 
--- `AssignsBytes old tokens v new`: a part that reads as the value to which all tokens lead is replaced by a text of `v`; or
--- `tokens` stop at a scalar, which is replaced by `v` expanded; or they stop at an object or an array, to which one child is added
+-- `AssignsBytes old tokens v new`: the text of the value to which all tokens lead is replaced by a text of `v`; or `tokens` stop
+-- at a scalar, which is replaced by `v` expanded; or they stop at an object or an array, to which one child is added
 abbrev pub AssignsBytes : Text → List Text → Data → Text → Type 0
 AssignsBytes old tokens v new =
     ReplacesBytes old new tokens v

@@ -1,10 +1,12 @@
 pub mod Bytes
-pub mod Carrying
+pub mod Giving
 pub mod EditInText
 pub mod InPlace
 pub mod Indenting
 pub mod Locating
+pub mod Placing
 pub mod PatchInText
+pub mod PrivateGiving
 pub mod PrivateOperating
 pub mod PrivateReaching
 pub mod PrivateRewriting

@@ -7,27 +7,29 @@ use Rattle.jsonptr_in_text.specs.InText.{FindsInText, RefusesInText}
 use Rattle.jsonptr_in_text.specs.declared.resolve.InTextError.{InTextError}
 use Rattle.jsonptr_in_text.specs.declared.resolve.InTextError.TheVariants as in_text
 use Rattle.jsonptr_json_edits.specs.Child.{IsValueText}
+use Rattle.jsonptr_edit_in_text.specs.Placing.{IsAt}
 use Rattle.jsonptr_edit_in_text.specs.declared.locate.LocateError.{LocateError}
 use Rattle.jsonptr_edit_in_text.specs.declared.locate.LocateError.TheVariants.{NotJson, Resolve, NotLocated, Memory}
 
--- `IsLocated text tokens before piece after`: `text` is `before`, `piece` and `after`, and `piece` is a text of exactly the
--- value that `tokens` identify in the document of `text`
+-- `IsLocated text tokens before piece after`: `text` is `before`, `piece` and `after`, and `piece` is the text of the value that
+-- `tokens` identify in the document of `text`
 pub record IsLocated (text : Text) (tokens : List Text) (before piece after : Text) : Type 0 where
   pub value : Data
   pub parts : text ≡ before ++ (piece ++ after)
   pub found : FindsInText text tokens value
   pub whole : IsValueText value piece
+  pub is_at : IsAt text tokens piece after
 
 -- `Contains before piece k`: in `before ++ piece`, the byte at the offset `k` is one of `piece`
 abbrev pub Contains : Text → Text → ℕ → Type 0
 Contains before piece k = (length before ≤ k) × (k < length before + length piece)
 
--- `IsLocatedAt text k tokens before piece after`: `piece` reads as the value that `tokens` identify, and the byte of `text` at
--- the offset `k` is one of its bytes
+-- `IsLocatedAt text k tokens before piece after`: `piece` is the text of the value that `tokens` identify, and the byte of
+-- `text` at the offset `k` is one of its bytes
 abbrev pub IsLocatedAt : Text → ℕ → List Text → Text → Text → Text → Type 0
 IsLocatedAt text k tokens before piece after = IsLocated text tokens before piece after × Contains before piece k
 
--- `IsOutside text k`: the byte of `text` at the offset `k` is none of some bytes that read as the document
+-- `IsOutside text k`: the byte of `text` at the offset `k` is none of the document's
 abbrev pub IsOutside : Text → ℕ → Type 0
 IsOutside text k = (before piece after : Text) × IsLocated text [] before piece after × (Contains before piece k → ⊥)
 

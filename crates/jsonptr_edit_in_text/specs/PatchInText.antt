@@ -14,7 +14,7 @@ use Rattle.jsonptr_patch.specs.declared.operation.Operation.{Operation}
 use Rattle.jsonptr_patch.specs.declared.operation.Operation.TheVariants.{Add, Remove, Replace, Move, Copy, Test}
 use Rattle.jsonptr_patch.specs.declared.comparison.Comparison.TheVariants.{Numeric}
 use Rattle.jsonptr_patch.specs.declared.failed_operation.FailedOperation.{FailedOperation}
-use Rattle.jsonptr_edit_in_text.specs.Bytes.{ReplacesBytes, AddsBytes, child_piece, DeletesBytes}
+use Rattle.jsonptr_edit_in_text.specs.Bytes.{ReplacesBytes, AddsBytes, child_text, DeletesBytes}
 use Rattle.jsonptr_edit_in_text.specs.EditInText.{IsTooDeep}
 use Rattle.jsonptr_edit_in_text.specs.declared.edited.EditError.{EditError}
 use Rattle.jsonptr_edit_in_text.specs.declared.edited.EditError.TheVariants.{NotJson, Refused, TooDeep, Memory}
@@ -25,18 +25,17 @@ abbrev pub PatchesInText : Text → List Operation → Text → Type 0
 PatchesInText old os new =
     (d d2 : Data) × (read old ≡ Some d) × (read new ≡ Some d2) × PatchesBy Numeric (nodes d) os (nodes d2)
 
--- `AddsAtBytes old tokens e new`: a part that reads as the value that `tokens` identify is replaced by a text of `e`, or one
--- child with the value `e` is added, which the last token refers to
+-- `AddsAtBytes old tokens e new`: the text of the value that `tokens` identify is replaced by a text of `e`, or one child with
+-- the value `e` is added, which the last token refers to
 abbrev pub AddsAtBytes : Text → List Text → Data → Text → Type 0
 AddsAtBytes old tokens e new =
     ReplacesBytes old new tokens e
     ⊎ ((front : List Text) × (x : Text) × (tokens ≡ front ++ x ∷ []) × AddsBytes old new front x e)
 
--- `added_piece old tokens e new b`: what is put into the text `old`: the text of the value, or the child with a comma and white
--- space
-abbrev pub added_piece : (old : Text) (tokens : List Text) (e : Data) (new : Text) → AddsAtBytes old tokens e new → Text
-added_piece old tokens e new (inl b) = b.piece
-added_piece old tokens e new (inr b) = child_piece old new b.0 b.1 e b.3
+-- `added_text old tokens e new b`: the text of the value that is put into the text `old`
+abbrev pub added_text : (old : Text) (tokens : List Text) (e : Data) (new : Text) → AddsAtBytes old tokens e new → Text
+added_text old tokens e new (inl b) = b.piece
+added_text old tokens e new (inr b) = child_text old new b.0 b.1 e b.3
 
 -- `MovesBytes old from path new`: the value at `from` is cut out, and then added at `path`
 abbrev pub MovesBytes : Text → List Text → List Text → Text → Type 0

@@ -1,5 +1,6 @@
 -- Words of private clauses: one operation of a patch, in a text.
 use Rattle.std.specs.Prelude.{◌≡◌, List, [], ◌∷◌, ◌++◌, Some, None}
+use Rattle.json.specs.Lex.{tokens as lexed}
 use Rattle.serde_json.specs.Data.{Data}
 use Rattle.serde_json.specs.Read.{read}
 use Rattle.jsonptr.specs.Text.{Text}
@@ -9,13 +10,12 @@ use Rattle.jsonptr.specs.Resolve.{PutsAt}
 use Rattle.jsonptr_json_search.specs.Search.{Choice}
 use Rattle.jsonptr_in_text.specs.InText.{FindsInText}
 use Rattle.jsonptr_in_text.specs.Selecting.{IsChoiceOf, AreChoicesOf}
-use Rattle.jsonptr_json_edits.specs.Alike.{HoldsTokens}
 use Rattle.jsonptr_json_edits.specs.Editing.{AddsElement}
 use Rattle.jsonptr_patch.specs.Adding.{Adds}
 use Rattle.jsonptr_patch.specs.Operating.{AppliesBy, Moves, Copies, PassesBy}
 use Rattle.jsonptr_patch.specs.declared.operation.Operation.{Operation}
 use Rattle.jsonptr_patch.specs.declared.comparison.Comparison.TheVariants.{Numeric}
-use Rattle.jsonptr_edit_in_text.specs.PatchInText.{AddsAtBytes, added_piece}
+use Rattle.jsonptr_edit_in_text.specs.PatchInText.{AddsAtBytes, added_text}
 
 -- `OperatesInText old o new`: the texts read as documents, and the operation `o` turns the first into the second
 abbrev pub OperatesInText : Text → Operation → Text → Type 0
@@ -63,8 +63,7 @@ ElementInserted x piece d d2 =
 -- `AddsAtByText old tokens flat new`: which bytes change where the value of the text `flat` is added
 abbrev pub AddsAtByText : Text → List Text → Text → Text → Type 0
 AddsAtByText old tokens flat new =
-    (e : Data) × (read flat ≡ Some e) × (b : AddsAtBytes old tokens e new)
-    × HoldsTokens flat new × HoldsTokens flat (added_piece old tokens e new b)
+    (e : Data) × (read flat ≡ Some e) × (b : AddsAtBytes old tokens e new) × (lexed (added_text old tokens e new b) ≡ lexed flat)
 
 -- `AreMemberChoices tokens x cs`: `cs` are the selectors of `tokens`, and one of the member with the key `x`
 abbrev pub AreMemberChoices : List Text → Text → List Choice → Type 0

@@ -1,23 +1,22 @@
 -- Words of private clauses: two values that differ at the location of some tokens.
-use Rattle.std.specs.Prelude.{◌≡◌, ◌⊎◌, List, Option, String, Some, None, codes, string_bytes}
+use Rattle.std.specs.Prelude.{◌≡◌, ◌⊎◌, List, ◌++◌, Option, String, Some, None, codes, string_bytes}
 use Rattle.std.specs.declared.alloc.Global.{Global}
+use Rattle.json.specs.Lex.{tokens as lexed}
 use Rattle.serde_json.specs.Data.{Data, array, Items}
 use Rattle.serde_json.specs.Read.{read}
-use Rattle.jsonptr_json_search.specs.Search.{items_count}
-use Rattle.jsonptr_json_edits.specs.Alike.{HoldsTokens}
-use Rattle.jsonptr_json_edits.specs.Child.{IsValueText}
-use Rattle.jsonptr_json_edits.specs.Spacing.{IsTrimmed}
+use Rattle.jsonptr_json_search.specs.Search.{Choice, items_count}
+use Rattle.jsonptr_json_edits.specs.Child.{IsValueText, value_part}
+use Rattle.jsonptr_json_edits.specs.Leading.{BeginsAt}
+use Rattle.jsonptr_json_edits.specs.Spacing.{IsTrimmed, Splices}
 use Rattle.jsonptr_json_edits.specs.declared.edit.Edit.TheVariants.{Replace}
 use Rattle.jsonptr_json_edits.specs.Editing.{AddsChosenMember, InsertsItem}
 use Rattle.jsonptr.specs.Text.{Text, dec}
-use Rattle.jsonptr.specs.Node.{Path, NodeMap, Names}
+use Rattle.jsonptr.specs.Node.{Path, Names}
 use Rattle.jsonptr.specs.Content.{content_at}
 use Rattle.jsonptr.specs.Json.{content, nodes}
 use Rattle.jsonptr.specs.Put.{put}
-use Rattle.jsonptr.specs.Expansion.{expanded}
-use Rattle.jsonptr_json_edits.specs.declared.value_text.ValueText.{ValueText}
 use Rattle.jsonptr_edit_in_text.specs.declared.replace.ValueEdit.{ValueEdit}
-use Rattle.jsonptr_edit_in_text.specs.Bytes.{IsScalar, ReplacesBytes, AddsPiece, AddsBytes, child_piece}
+use Rattle.jsonptr_edit_in_text.specs.Bytes.{IsScalar, ReplacesBytes, AddsPiece, AddsBytes, child_text}
 
 -- `Reached R d d2 tokens`: the tokens name a path of `d`, and `d2` is `d` with another value there, which `R` relates to the old
 -- one
@@ -50,7 +49,14 @@ pub record IsValueEdit (middle flat : Text) (made : ValueEdit) : Type 0 where
   pub new : string_bytes after ≡ flat
   pub trimmed : IsTrimmed middle
   pub reads : (e : Data) × (read flat ≡ Some e) × IsValueText e (string_bytes made.piece)
-  pub holds : HoldsTokens flat (string_bytes made.piece)
+  pub same : lexed (string_bytes made.piece) ≡ lexed flat
+
+-- `SplicesAt cs old new middle piece`: `new` is `old` with `piece` instead of `middle`, and the selectors `cs` lead to each of
+-- them, in its text
+pub record SplicesAt (cs : List Choice) (old new middle piece : Text) : Type 0 where
+  pub splices : Splices old new middle piece
+  pub was_at : BeginsAt cs old middle (middle ++ splices.after)
+  pub is_at : BeginsAt cs new piece (piece ++ splices.after)
 
 -- `Becomes piece d d2`: `d2` is the value of the text `piece`
 abbrev pub Becomes : Text → Data → Data → Type 0
@@ -76,27 +82,27 @@ pub record ElementAppended (x piece : Text) (d d2 : Data) : Type 0 where
   pub inserts : InsertsItem (items_count ds) e ds ds2
   pub refers : (x ≡ codes "-") ⊎ (x ≡ dec (items_count ds))
 
--- ---- which bytes change, by the text of the value that an edit brings. What is put into the text holds the tokens of that
--- text, and so does the new text
+-- ---- which bytes change, by the text of the value that an edit brings. What is put into the text as the value has the tokens
+-- of that text
 
 -- `ReplacesByText old new tokens flat`: the value that `tokens` identify is replaced by that of the text `flat`, with its
 -- tokens
 abbrev pub ReplacesByText : Text → Text → List Text → Text → Type 0
 ReplacesByText old new tokens flat =
-    (e : Data) × (read flat ≡ Some e) × (b : ReplacesBytes old new tokens e) × HoldsTokens flat new × HoldsTokens flat b.piece
+    (e : Data) × (read flat ≡ Some e) × (b : ReplacesBytes old new tokens e) × (lexed b.piece ≡ lexed flat)
 
 -- `ReplacesScalarByText old new tokens flat`: the same of a scalar
 abbrev pub ReplacesScalarByText : Text → Text → List Text → Text → Type 0
 ReplacesScalarByText old new tokens flat =
-    (e : Data) × (read flat ≡ Some e) × ((h : ReplacesBytes old new tokens e) × IsScalar h.value) × HoldsTokens flat new
+    (e : Data) × (read flat ≡ Some e) × (b : ReplacesBytes old new tokens e) × IsScalar b.value × (lexed b.piece ≡ lexed flat)
 
--- `AddsPieceByText old new key flat`: one child is added, with the value of the text `flat`
-abbrev pub AddsPieceByText : Text → Text → Option Text → Text → Type 0
-AddsPieceByText old new key flat =
-    (e : Data) × (read flat ≡ Some e) × (b : AddsPiece old new key e) × HoldsTokens flat new × HoldsTokens flat b.piece
+-- `AddsPieceByText old new tokens key flat`: one child is added, with the value of the text `flat`
+abbrev pub AddsPieceByText : Text → Text → List Text → Option Text → Text → Type 0
+AddsPieceByText old new tokens key flat =
+    (e : Data) × (read flat ≡ Some e) × (b : AddsPiece old new tokens key e)
+    × (lexed (value_part key e b.piece b.child) ≡ lexed flat)
 
 -- `AddsByText old new front x flat`: the same of a child that `x` refers to
 abbrev pub AddsByText : Text → Text → List Text → Text → Text → Type 0
 AddsByText old new front x flat =
-    (e : Data) × (read flat ≡ Some e) × (b : AddsBytes old new front x e)
-    × HoldsTokens flat new × HoldsTokens flat (child_piece old new front x e b)
+    (e : Data) × (read flat ≡ Some e) × (b : AddsBytes old new front x e) × (lexed (child_text old new front x e b) ≡ lexed flat)

@@ -5,8 +5,9 @@ ghost use Rattle.jsonptr_json_search.specs.Search.{choices};
 ghost use Rattle.jsonptr_edit_in_text.specs.PrivateOperating.{AddsInText, AddsAtByText, AreMemberChoices};
 ghost use Rattle.jsonptr_edit_in_text.specs.PrivateReaching.{AddsByText};
 
-use crate::edit::edit_by;
+use crate::edit::{ValueEditAt, put_value};
 use crate::insert::{add_member, append, insert};
+use crate::lead::child_selectors;
 use crate::place::Site;
 use crate::replace::{replace_at, value_edit};
 use jsonptr::{Pointer, Token};
@@ -99,12 +100,18 @@ fn replace_member(
         return Ok(None);
     };
     let selectors = member_selectors(alloc, site.pointer, token)?;
-    let at = EditAt {
+    let path = child_selectors(alloc, site.pointer, token)?;
+    let edit = EditAt {
         selectors: &selectors,
         positions: &site.place.positions,
         edit: &made.edit,
     };
-    edit_by(alloc, buffers, &cut, at, made.piece.as_str())
+    let at = ValueEditAt {
+        edit,
+        path: &path,
+        piece: made.piece.as_str(),
+    };
+    put_value(alloc, buffers, &cut, at)
 }
 
 /// Adds the value as a new child of the array or object at the site.

@@ -31,7 +31,7 @@ use std::alloc::{AllocError, Global};
 /// Each new text is read side by side with the one before it. If that fails, the document is read,
 /// changed and printed, and the result is [`Edited::Rewritten`].
 ///
-/// Each operation reads its text some four times, and allocates for the next one. After an error the
+/// Each operation reads its text some six times, and allocates for the next one. After an error the
 /// document is read once more, since its own call determines the error.
 ///
 /// # Errors
@@ -101,10 +101,9 @@ pub fn apply_in_text_with(
 /// Applies the operations of a patch in order to the document that the text contains, as
 /// [`apply_in_text_with`] does, each with the text of its value.
 ///
-/// Where an `add` or a `replace` has such a text, what is put into the document holds its tokens, one for
-/// one: the members in their order, and the numbers as they are written. That it is nothing else but a
-/// key, a comma and white space is tested. Only a document that is [`Rewritten`](Edited::Rewritten) has
-/// all values printed.
+/// Where an `add` or a `replace` has such a text, the value that is put into the document has its tokens, one
+/// for one: the members in their order, and the numbers as they are written. Only a document that is
+/// [`Rewritten`](Edited::Rewritten) has all values printed.
 ///
 /// # Errors
 ///

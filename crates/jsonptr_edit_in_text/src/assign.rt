@@ -3,10 +3,11 @@ ghost use Rattle.std.specs.Prelude.{◌≡◌, ◌∷◌, ◌++◌, List, ℕ, I
 ghost use Rattle.serde_json.specs.View.{view};
 ghost use Rattle.jsonptr.specs.Pointer.{tokens};
 ghost use Rattle.jsonptr.specs.Json.{nodes};
-ghost use Rattle.jsonptr_edit_in_text.specs.Bytes.{KeepsBytes, AssignsBytes, ReplacesBytes, ExpandsBytes, AddsExpandedBytes};
+ghost use Rattle.jsonptr_edit_in_text.specs.Bytes.{KeepsBytes, AssignsBytes};
 ghost use Rattle.jsonptr_text_value.specs.Raw.{value_of_raw};
-ghost use Rattle.jsonptr_edit_in_text.specs.Carrying.{Carries};
 ghost use Rattle.jsonptr_edit_in_text.specs.EditInText.{edited_text, AssignsInText, IsAssignError};
+ghost use Rattle.jsonptr_edit_in_text.specs.Giving.{AssignsGiven};
+ghost use Rattle.jsonptr_edit_in_text.specs.PrivateGiving.{ReplacesWith, AddsWith, ExpandsWith};
 
 use crate::edited::{EditError, Edited};
 use crate::insert::{add_member, append};
@@ -31,7 +32,7 @@ use std::alloc::{AllocError, Global};
 /// The new text is read side by side with the old one before it is returned. If that fails, the
 /// document is read, changed and printed, and the result is [`Edited::Rewritten`].
 ///
-/// Reads the old text two or three times and the new one once, and allocates for both texts, for
+/// Reads the old text and the new one two to four times each, and allocates for both texts, for
 /// their unescaped strings, and for the value.
 ///
 /// # Errors
@@ -110,10 +111,10 @@ pub fn assign_in_text_with(
 /// Assigns the value at the pointer in the document that the text contains, as
 /// [`assign_in_text_with`] does, with the value's own text.
 ///
-/// In place, a part of the new text has the tokens of the value's text, one for one: its members in
-/// their order, and its numbers as they are written. That this part is what the pointer leads to is
-/// tested. Where the value is expanded by tokens that name nothing yet, the arrays and objects that are
-/// made are around it. Only a document that is [`Rewritten`](Edited::Rewritten) has the value printed.
+/// In place, the value that the pointer leads to afterwards has the tokens of this text, one for one: its
+/// members in their order, and its numbers as they are written. Where the value is expanded by tokens that
+/// name nothing yet, the arrays and objects that are made are around it. Only a document that is
+/// [`Rewritten`](Edited::Rewritten) has the value printed.
 ///
 /// # Errors
 ///
@@ -141,7 +142,8 @@ pub fn assign_raw_in_text_with(
         (nodes (value_of_raw raw.now)) (edited_text e)) }
     ensures bytes { IfOk result
         (KeepsBytes (AssignsBytes text.now (tokens pointer.entry) (value_of_raw raw.now))) }
-    ensures carries { IfOk result (KeepsBytes (Carries (string_bytes raw.now.printed.flat))) }
+    ensures carries { IfOk result
+        (KeepsBytes (AssignsGiven text.now (tokens pointer.entry) raw.now)) }
     ensures refused { IfErr result (IsAssignError text.now (tokens pointer.entry)
         (value_of_raw raw.now)) }
 {
@@ -167,10 +169,8 @@ fn try_assign(
 ) -> Result<Option<String>, AllocError>
     ensures assigned { IfOk result (λ new. IfSome new (λ s.
         AssignsInText text.now (tokens pointer.entry) (nodes (value_of_raw raw.now)) (string_bytes s))) }
-    ensures carries { IfOk result (λ new. IfSome new (λ s.
-        Carries (string_bytes raw.now.printed.flat) (string_bytes s))) }
     ensures bytes { IfOk result (λ new. IfSome new (λ s.
-        AssignsBytes text.now (tokens pointer.entry) (value_of_raw raw.now) (string_bytes s))) }
+        AssignsGiven text.now (tokens pointer.entry) raw.now (string_bytes s))) }
 {
     let selectors = selectors_of(alloc, pointer)?;
     let Some(place) = place_of(alloc, buffers, text, &selectors)? else {
@@ -198,10 +198,8 @@ fn assign_from(
 ) -> Result<Option<String>, AllocError>
     ensures assigned { IfOk result (λ new. IfSome new (λ s. AssignsInText site.now.text.now
         (tokens site.now.pointer ++ tokens rest.entry) (nodes (value_of_raw raw.now)) (string_bytes s))) }
-    ensures carries { IfOk result (λ new. IfSome new (λ s.
-        Carries (string_bytes raw.now.printed.flat) (string_bytes s))) }
-    ensures bytes { IfOk result (λ new. IfSome new (λ s. AssignsBytes site.now.text.now
-        (tokens site.now.pointer ++ tokens rest.entry) (value_of_raw raw.now) (string_bytes s))) }
+    ensures bytes { IfOk result (λ new. IfSome new (λ s. AssignsGiven site.now.text.now
+        (tokens site.now.pointer ++ tokens rest.entry) raw.now (string_bytes s))) }
 {
     let Some((token, after)) = rest.split_front() else {
         return assign_there(alloc, buffers, site, raw);
@@ -227,10 +225,8 @@ fn assign_there(
 ) -> Result<Option<String>, AllocError>
     ensures assigned { IfOk result (λ new. IfSome new (λ s. AssignsInText site.now.text.now
         (tokens site.now.pointer) (nodes (value_of_raw raw.now)) (string_bytes s))) }
-    ensures carries { IfOk result (λ new. IfSome new (λ s.
-        Carries (string_bytes raw.now.printed.flat) (string_bytes s))) }
-    ensures bytes { IfOk result (λ new. IfSome new (λ s. ReplacesBytes site.now.text.now
-        (string_bytes s) (tokens site.now.pointer) (value_of_raw raw.now))) }
+    ensures bytes { IfOk result (λ new. IfSome new (λ s. ReplacesWith raw.now site.now.text.now
+        (string_bytes s) (tokens site.now.pointer))) }
 {
     replace(alloc, buffers, site, &raw.printed)
 }
@@ -256,11 +252,9 @@ fn assign_child(
     ensures assigned { IfOk result (λ new. IfSome new (λ s. AssignsInText site.now.text.now
         (tokens site.now.pointer ++ missing.now.token.now ∷ tokens missing.now.after)
         (nodes (value_of_raw raw.now)) (string_bytes s))) }
-    ensures carries { IfOk result (λ new. IfSome new (λ s.
-        Carries (string_bytes raw.now.printed.flat) (string_bytes s))) }
-    ensures bytes { IfOk result (λ new. IfSome new (λ s. AddsExpandedBytes site.now.text.now
+    ensures bytes { IfOk result (λ new. IfSome new (λ s. AddsWith raw.now site.now.text.now
         (string_bytes s) (tokens site.now.pointer) missing.now.token.now
-        (tokens missing.now.after) (value_of_raw raw.now))) }
+        (tokens missing.now.after))) }
 {
     let Some(printed) = expanded_text(alloc, &mut buffers.value, missing.after, raw)? else {
         return Ok(None);
@@ -283,10 +277,8 @@ fn assign_scalar(
     ensures assigned { (x : List ℕ) (after : List (List ℕ)) → tokens rest.entry ≡ x ∷ after
         → IfOk result (λ new. IfSome new (λ s. AssignsInText site.now.text.now
         (tokens site.now.pointer ++ x ∷ after) (nodes (value_of_raw raw.now)) (string_bytes s))) }
-    ensures carries { IfOk result (λ new. IfSome new (λ s.
-        Carries (string_bytes raw.now.printed.flat) (string_bytes s))) }
-    ensures bytes { IfOk result (λ new. IfSome new (λ s. ExpandsBytes site.now.text.now
-        (string_bytes s) (tokens site.now.pointer) (tokens rest.entry) (value_of_raw raw.now))) }
+    ensures bytes { IfOk result (λ new. IfSome new (λ s. ExpandsWith raw.now site.now.text.now
+        (string_bytes s) (tokens site.now.pointer) (tokens rest.entry))) }
 {
     let Some(printed) = expanded_text(alloc, &mut buffers.value, rest, raw)? else {
         return Ok(None);

@@ -26,9 +26,8 @@ pub struct PointerAt<'t> {
 /// it is the innermost one, except in a member whose key comes again: no pointer leads there, and the
 /// value is one around that member, perhaps the whole document.
 ///
-/// Reads the text up to the offset, and twice for each value that is looked at: as a rule one or two.
-/// That bytes around the offset read as the value is proved. That they are its own, and that it is the
-/// innermost one, is tested.
+/// Reads the text up to the offset, and two to three times for each value that is looked at: as a rule one
+/// or two. That it is the innermost one is tested.
 ///
 /// # Errors
 ///

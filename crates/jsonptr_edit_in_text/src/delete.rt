@@ -30,7 +30,7 @@ use std::alloc::{AllocError, Global};
 /// The new text is read side by side with the old one before it is returned. If that fails, the
 /// document is read, changed and printed, and the result is [`Edited::Rewritten`].
 ///
-/// Reads the old text two or three times and the new one once, and allocates for both texts and for
+/// Reads the old text four or five times and the new one once, and allocates for both texts and for
 /// their unescaped strings.
 ///
 /// # Errors

@@ -6,7 +6,7 @@ ghost use Rattle.jsonptr.specs.Json.{nodes};
 ghost use Rattle.jsonptr_value.specs.Reading.{IsReadError};
 ghost use Rattle.jsonptr_edit_in_text.specs.Bytes.{AssignsBytes, DeletesBytes};
 ghost use Rattle.jsonptr_text_value.specs.Raw.{value_of_raw};
-ghost use Rattle.jsonptr_edit_in_text.specs.Carrying.{Carries};
+ghost use Rattle.jsonptr_edit_in_text.specs.Giving.{AssignsGiven};
 ghost use Rattle.jsonptr_edit_in_text.specs.EditInText.{AssignsInText, DeletesInText, LacksInText, IsAssignError};
 ghost use Rattle.jsonptr_edit_in_text.specs.PatchInText.{PatchesInText, PatchBytes, IsPatchError};
 ghost use Rattle.jsonptr_text_value.specs.Operations.{operations_in};
@@ -99,7 +99,8 @@ pub fn assign_raw_in_place(
         (nodes (value_of_raw raw.now)) (string_bytes s)) }
     ensures bytes { IfOk result (λ s.
         AssignsBytes text.now (tokens pointer.entry) (value_of_raw raw.now) (string_bytes s)) }
-    ensures carries { IfOk result (λ s. Carries (string_bytes raw.now.printed.flat) (string_bytes s)) }
+    ensures carries { IfOk result (λ s.
+        AssignsGiven text.now (tokens pointer.entry) raw.now (string_bytes s)) }
     ensures one_line { IfOk result (λ s. StaysOneLine text.now (string_bytes s)) }
     ensures refused { IfErr result (IsInPlaceError
         (AssignsInText text.now (tokens pointer.entry) (nodes (value_of_raw raw.now)))

@@ -1,5 +1,5 @@
 //! Adding a child to an array or an object in a text.
-ghost use Rattle.std.specs.Prelude.{◌≡◌, ◌⊎◌, Some, IfOk, IfSome, codes, option_map, string_bytes};
+ghost use Rattle.std.specs.Prelude.{◌≡◌, ◌⊎◌, [], ◌∷◌, ◌++◌, Some, IfOk, IfSome, codes, option_map, string_bytes};
 ghost use Rattle.jsonptr.specs.Pointer.{tokens};
 ghost use Rattle.jsonptr.specs.Text.{dec};
 ghost use Rattle.jsonptr_in_text.specs.Selecting.{IsChoiceOf};
@@ -9,12 +9,13 @@ ghost use Rattle.jsonptr_edit_in_text.specs.PrivateOperating.{ElementInserted};
 ghost use Rattle.jsonptr_edit_in_text.specs.PrivateReaching.{ReachedInText, MemberAdded, ElementAppended, AddsPieceByText, AddsByText};
 
 use crate::edit::{EditAtPointer, edit_at};
+use crate::lead::{ChildAt, Front, is_child_after};
 use crate::place::Site;
 use jsonptr::Token;
 use jsonptr::index::Index;
 use jsonptr_in_text::selectors::selector_of;
 use jsonptr_json_edits::buffers::Buffers;
-use jsonptr_json_edits::child::is_one_child;
+use jsonptr_json_edits::child::one_child;
 use jsonptr_json_edits::cut::cut_at;
 use jsonptr_json_edits::edit::{Child, Edit};
 use jsonptr_json_edits::layout::{Container, Piece, addition};
@@ -62,6 +63,8 @@ pub fn add_member(
         piece: &piece,
         key: name,
         value: printed.flat.as_str(),
+        token,
+        position,
     };
     put_child(alloc, buffers, site, new, &Edit::Add(child))
 }
@@ -99,10 +102,13 @@ pub fn append(
         children: elements.as_slice(),
     };
     let piece = addition(alloc, container, position, None, printed)?;
+    let refers = Token::from_number(alloc, index)?;
     let new = NewChild {
         piece: &piece,
         key: None,
         value: printed.flat.as_str(),
+        token: &refers,
+        position,
     };
     put_child(alloc, buffers, site, new, &Edit::Append(child))
 }
@@ -143,50 +149,76 @@ pub fn insert(
         piece: &piece,
         key: None,
         value: printed.flat.as_str(),
+        token,
+        position: index,
     };
     put_child(alloc, buffers, site, new, &Edit::Insert(child))
 }
 
 /// A child that is put into an array or an object.
 #[derive(Clone, Copy, Debug)]
-struct NewChild<'p, 'k, 'v> {
+struct NewChild<'p, 'k, 'v, 't> {
     /// What comes into the text.
     piece: &'p Piece,
     /// Its key, if it is a member.
     key: Option<&'k str>,
     /// A JSON text of its value.
     value: &'v str,
+    /// The token that refers to it in the new text.
+    token: &'p Token<'t>,
+    /// Its position among all children in the new text.
+    position: usize,
 }
 
-/// Puts the text of a child into the array or object at the site, if that makes the edit.
+/// Puts the text of a child into the array or object at the site, if that makes the edit, and if the pointer
+/// of the child leads to its value there.
 fn put_child(
     alloc: Global,
     buffers: &mut Buffers,
     site: &Site<'_>,
-    child: NewChild<'_, '_, '_>,
+    child: NewChild<'_, '_, '_, '_>,
     edit: &Edit,
 ) -> Result<Option<String>, AllocError>
     ensures reached { IfOk result (λ new. IfSome new (λ s. ReachedInText site.now.text.now
         (string_bytes s) (tokens site.now.pointer) (Makes edit.now))) }
     ensures bytes { IfOk result (λ new. IfSome new (λ s. AddsPieceByText site.now.text.now
-        (string_bytes s) (option_map (λ k. k.now) child.entry.key) child.entry.value.now)) }
+        (string_bytes s) (tokens site.now.pointer ++ child.entry.token.now ∷ [])
+        (option_map (λ k. k.now) child.entry.key) child.entry.value.now)) }
 {
     let piece = child.piece;
     let Some(cut) = cut_at(site.text, piece.span.from, piece.span.to) else {
         return Ok(None);
     };
     let added = piece.text.as_str();
-    if !is_blank(cut.middle)
-        || !is_one_child(buffers, added, piece.child, child.key, Some(child.value))?
-    {
+    if !is_blank(cut.middle) {
         return Ok(None);
     }
+    let Some(parts) = one_child(buffers, added, piece.child, child.key, Some(child.value))? else {
+        return Ok(None);
+    };
     let at = EditAtPointer {
         pointer: site.pointer,
         positions: &site.place.positions,
         edit,
     };
-    edit_at(alloc, buffers, &cut, &at, added)
+    let Some(new) = edit_at(alloc, buffers, &cut, &at, added)? else {
+        return Ok(None);
+    };
+    let text = Front {
+        text: new.as_str(),
+        front: cut.before,
+    };
+    let there = ChildAt {
+        pointer: site.pointer,
+        token: child.token,
+        above: &site.place.positions,
+        position: child.position,
+    };
+    if is_child_after(alloc, buffers, text, there, &parts)? {
+        Ok(Some(new))
+    } else {
+        Ok(None)
+    }
 }
 
 /// Returns the child that the token selects, with the value.

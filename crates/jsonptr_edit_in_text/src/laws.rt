@@ -22,11 +22,11 @@ pub fn undo_law()
     ensures replaced { (old new : Text) (tokens : List Text) (e : Data)
         (h : ReplacesBytes old new tokens e)
         → FindsInText new tokens e → ReplacesBytes new old tokens h.value }
-    ensures added { (old new : Text) (key : Option Text) (e : Data)
-        → AddsPiece old new key e
-        → (left blank : Text) × CutsBytes new left key e × IsBlank blank × Splices old left blank [] }
-    ensures cut { (old new : Text) (key : Option Text) (v : Data)
-        → CutsBytes old new key v → AddsPiece new old key v }
+    ensures added { (old new : Text) (tokens : List Text) (key : Option Text) (e : Data)
+        → AddsPiece old new tokens key e
+        → (left blank : Text) × CutsBytes new left tokens key e × IsBlank blank × Splices old left blank [] }
+    ensures cut { (old new : Text) (tokens : List Text) (key : Option Text) (v : Data)
+        → CutsBytes old new tokens key v → AddsPiece new old tokens key v }
 {}
 
 /// States that a text of one line in which a piece is replaced is one line exactly if the new piece

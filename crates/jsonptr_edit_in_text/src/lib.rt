@@ -21,9 +21,9 @@
 //! - *Meaning*: the new text reads as the document that the call on documents makes of the document
 //!   that the old text reads as.
 //! - *Bytes*: one piece changes, or one for each operation of a patch, and for each member with the key
-//!   that is deleted. It reads as the value that is replaced, or it is one child that is added or
-//!   removed, with white space and at most one comma beside it. That it begins and ends between tokens,
-//!   and is that value's own text, is tested.
+//!   that is deleted. It is the text of the value that is replaced, or one child that is added or
+//!   removed, with white space and at most one comma beside it. The pointer leads to it in the tokens of
+//!   the text, so it is no part of a token, and no equal value elsewhere.
 //!
 //! To edit many texts keep one [`Buffers`], and pass it to each call that takes one: it keeps its
 //! memory from text to text.
@@ -43,6 +43,7 @@ mod in_place;
 mod indent;
 mod insert;
 pub mod laws;
+mod lead;
 mod locate;
 mod one_line;
 mod operate;

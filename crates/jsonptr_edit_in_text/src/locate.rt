@@ -4,12 +4,12 @@ ghost use Rattle.jsonptr.specs.Pointer.{tokens};
 ghost use Rattle.jsonptr_edit_in_text.specs.Locating.{IsLocated, IsLocateError, locate_of_in_text};
 ghost use Rattle.jsonptr_edit_in_text.specs.declared.locate.LocateError.TheVariants.{Memory};
 
+use crate::lead::{Target, leads_after};
 use jsonptr::{Pointer, resolve};
 use jsonptr_in_text::selectors::selectors_of;
 use jsonptr_in_text::{InTextError, resolve_in_text_with};
 use jsonptr_json_edits::buffers::Buffers;
 use jsonptr_json_edits::cut::{Cut, cut_at};
-use jsonptr_json_edits::lead::{Route, leads_to};
 use jsonptr_json_edits::locate::place_at;
 use jsonptr_json_edits::spacing::is_trimmed;
 use std::alloc::{AllocError, Global};
@@ -69,8 +69,7 @@ impl From<AllocError> for LocateError {
 /// value, with its members in their order, its numbers and escapes as they are written, and the white
 /// space within it. Of a repeated key the last member counts.
 ///
-/// Reads the text twice, and builds no document. That the second part reads as the value is proved; that
-/// it is the value's own text, and no other bytes that read so, is tested.
+/// Reads the text twice, and what follows `before` once more. Builds no document.
 ///
 /// # Errors
 ///
@@ -157,12 +156,12 @@ fn cut_around<'t>(
     let Some(cut) = cut_at(text, place.value.from, place.value.to) else {
         return Ok(None);
     };
-    let target = Route {
+    let target = Target {
         selectors: &selectors,
         positions: &place.positions,
         value: cut.middle,
     };
-    if is_trimmed(cut.middle) && leads_to(buffers, text, target)? {
+    if is_trimmed(cut.middle) && leads_after(buffers, text, cut.before, target)? {
         Ok(Some(cut))
     } else {
         Ok(None)

@@ -1,5 +1,5 @@
 //! Removing a child of an array or an object from a text.
-ghost use Rattle.std.specs.Prelude.{[], ◌∷◌, ◌++◌, List, ℕ, Some, IfOk, IfSome, IsTrue, option_map, string_bytes};
+ghost use Rattle.std.specs.Prelude.{◌≡◌, [], ◌∷◌, ◌++◌, List, ℕ, Some, IfOk, IfSome, IsTrue, option_map, string_bytes};
 ghost use Rattle.serde_json.specs.Data.{Data};
 ghost use Rattle.jsonptr.specs.Pointer.{tokens};
 ghost use Rattle.jsonptr_json_edits.specs.Child.{IsReadAs};
@@ -7,11 +7,12 @@ ghost use Rattle.jsonptr_edit_in_text.specs.Bytes.{CutsBytes, CutsInTurn, CutsMe
 ghost use Rattle.jsonptr_edit_in_text.specs.EditInText.{DeletesInText};
 
 use crate::edit::{EditAtPointer, is_edited_at};
+use crate::lead::{ChildAt, Front, is_child_after};
 use crate::place::Site;
 use jsonptr::Token;
 use jsonptr_in_text::selectors::selector_of;
 use jsonptr_json_edits::buffers::Buffers;
-use jsonptr_json_edits::child::is_one_child;
+use jsonptr_json_edits::child::one_child;
 use jsonptr_json_edits::cut::{cut_at, splice};
 use jsonptr_json_edits::edit::{Child, Edit};
 use jsonptr_json_edits::layout::{Container, removal, slice};
@@ -68,14 +69,25 @@ fn cut_members(
     let value = site.slice();
     let removed = Removed {
         container: site.place.container,
-        position: *last,
+        at: ChildAt {
+            pointer: site.pointer,
+            token,
+            above,
+            position: *last,
+        },
         key: Some(key),
         value: Some(value),
     };
     let Some(first) = cut_child(alloc, buffers, site.text, removed)? else {
         return Ok(None);
     };
-    let Some(new) = cut_in_turn(alloc, buffers, site, first, key)? else {
+    let earlier = Earlier {
+        site,
+        token,
+        above,
+        key,
+    };
+    let Some(new) = cut_in_turn(alloc, buffers, earlier, first)? else {
         return Ok(None);
     };
     let edit = Edit::Add(Child {
@@ -113,7 +125,12 @@ fn cut_element(
     let value = site.slice();
     let removed = Removed {
         container: site.place.container,
-        position: *position,
+        at: ChildAt {
+            pointer: site.pointer,
+            token,
+            above,
+            position: *position,
+        },
         key: None,
         value: Some(value),
     };
@@ -139,29 +156,42 @@ fn cut_element(
 
 /// A child that is cut out.
 #[derive(Clone, Copy, Debug)]
-struct Removed<'a> {
+struct Removed<'a, 't> {
     /// Where the array or object is that has it.
     container: Span,
-    /// Its position among all children.
-    position: usize,
+    /// Which child it is.
+    at: ChildAt<'a, 't>,
     /// Its key, if it is a member.
     key: Option<&'a str>,
     /// The text of its value, if one is given.
     value: Option<&'a str>,
 }
 
-/// Cuts out the members with the key before the one at the site, the last one first. That one was cut out
-/// of the text.
+/// The members with a key before the one at a site.
+#[derive(Clone, Copy, Debug)]
+struct Earlier<'a, 't> {
+    /// The site.
+    site: &'a Site<'t>,
+    /// The token that refers to each of them, if there is no later one.
+    token: &'a Token<'t>,
+    /// The position, among all children, of each child on the way to the object.
+    above: &'a [usize],
+    /// The key.
+    key: &'a str,
+}
+
+/// Cuts out these members, the last one first. The one at the site was cut out of the text.
 fn cut_in_turn(
     alloc: Global,
     buffers: &mut Buffers,
-    site: &Site<'_>,
+    members: Earlier<'_, '_>,
     text: String,
-    key: &str,
 ) -> Result<Option<String>, AllocError>
-    ensures { IfOk result (λ new. IfSome new (λ s. (mids : List (List ℕ))
-        × CutsInTurn key.now (string_bytes text) mids (string_bytes s))) }
+    ensures { members.entry.key.now ≡ members.entry.token.now → IfOk result (λ new. IfSome new
+        (λ s. (mids : List (List ℕ)) × CutsInTurn (tokens members.entry.site.now.pointer)
+        members.entry.token.now (string_bytes text) mids (string_bytes s))) }
 {
+    let site = members.site;
     let Some((_, earlier)) = site.place.duplicates.split_last() else {
         return Ok(None);
     };
@@ -171,8 +201,13 @@ fn cut_in_turn(
         let old = current.as_str();
         let removed = Removed {
             container,
-            position: *position,
-            key: Some(key),
+            at: ChildAt {
+                pointer: site.pointer,
+                token: members.token,
+                above: members.above,
+                position: *position,
+            },
+            key: Some(members.key),
             value: None,
         };
         let Some(next) = cut_child(alloc, buffers, old, removed)? else {
@@ -199,16 +234,17 @@ fn cut_child(
     alloc: Global,
     buffers: &mut Buffers,
     text: &str,
-    removed: Removed<'_>,
+    removed: Removed<'_, '_>,
 ) -> Result<Option<String>, AllocError>
     ensures { IfOk result (λ new. IfSome new (λ s. (v : Data)
         × IsReadAs (option_map (λ t. t.now) removed.entry.value) v
-        × CutsBytes text.now (string_bytes s) (option_map (λ k. k.now) removed.entry.key) v)) }
+        × CutsBytes text.now (string_bytes s) (tokens removed.entry.at.pointer ++ removed.entry.at.token.now ∷ [])
+        (option_map (λ k. k.now) removed.entry.key) v)) }
 {
     let Some(children) = children_of(alloc, buffers, text, removed.container)? else {
         return Ok(None);
     };
-    let Some(extent) = children.get(removed.position) else {
+    let Some(extent) = children.get(removed.at.position) else {
         return Ok(None);
     };
     let there = Container {
@@ -216,14 +252,21 @@ fn cut_child(
         span: removed.container,
         children: children.as_slice(),
     };
-    let Some(span) = removal(there, removed.position) else {
+    let Some(span) = removal(there, removed.at.position) else {
         return Ok(None);
     };
     let Some(cut) = cut_at(text, span.from, span.to) else {
         return Ok(None);
     };
     let extent = within(*extent, span.from);
-    if !is_one_child(buffers, cut.middle, extent, removed.key, removed.value)? {
+    let Some(parts) = one_child(buffers, cut.middle, extent, removed.key, removed.value)? else {
+        return Ok(None);
+    };
+    let place = Front {
+        text,
+        front: cut.before,
+    };
+    if !is_child_after(alloc, buffers, place, removed.at, &parts)? {
         return Ok(None);
     }
     Ok(Some(splice(alloc, &cut, "")?))

@@ -7,14 +7,14 @@ ghost use Rattle.jsonptr.specs.Pointer.{tokens};
 ghost use Rattle.jsonptr_edit_in_text.specs.Bytes.{IsScalar};
 ghost use Rattle.jsonptr_edit_in_text.specs.PrivateReaching.{ReachedInText, ReplacesCut, IsValueEdit, Becomes, ScalarBecomes, ReplacesByText, ReplacesScalarByText};
 
-use crate::edit::{EditAtPointer, edit_at};
+use crate::edit::{ValueEditAt, put_value};
 use crate::place::Site;
 use jsonptr::Pointer;
 use jsonptr_in_text::selectors::selectors_of;
 use jsonptr_json_edits::buffers::Buffers;
 use jsonptr_json_edits::child::is_value_of;
 use jsonptr_json_edits::cut::{Cut, cut_at};
-use jsonptr_json_edits::edit::Edit;
+use jsonptr_json_edits::edit::{Edit, EditAt};
 use jsonptr_json_edits::layout::replacement;
 use jsonptr_json_edits::locate::place_at;
 use jsonptr_json_edits::spacing::is_trimmed;
@@ -160,12 +160,18 @@ fn replace_cut(
     let Some(made) = value_edit(alloc, buffers, cut, site, printed)? else {
         return Ok(None);
     };
-    let at = EditAtPointer {
-        pointer: site.pointer,
+    let selectors = selectors_of(alloc, site.pointer)?;
+    let edit = EditAt {
+        selectors: &selectors,
         positions: &site.place.positions,
         edit: &made.edit,
     };
-    edit_at(alloc, buffers, cut, &at, made.piece.as_str())
+    let at = ValueEditAt {
+        edit,
+        path: &selectors,
+        piece: made.piece.as_str(),
+    };
+    put_value(alloc, buffers, cut, at)
 }
 
 /// Returns whether the text is that of a scalar.

@@ -6,7 +6,7 @@ ghost use Rattle.jsonptr_edit_in_text.specs.PrivateOperating.{FindsText};
 use jsonptr::Pointer;
 use jsonptr_in_text::selectors::selectors_of;
 use jsonptr_json_edits::buffers::Buffers;
-use jsonptr_json_edits::layout::text_at;
+use jsonptr_json_edits::layout::{slice, text_at};
 use jsonptr_json_edits::lead::{Route, leads_to};
 use jsonptr_json_edits::locate::place_at;
 use jsonptr_json_edits::value_text::ValueText;
@@ -36,6 +36,7 @@ pub fn value_at(
         selectors: &selectors,
         positions: &place.positions,
         value: printed.flat.as_str(),
+        tail: slice(text, place.value.from, text.len()),
     };
     if leads_to(buffers, text, target)? {
         Ok(Some(printed))

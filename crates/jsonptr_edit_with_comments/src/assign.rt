@@ -5,7 +5,7 @@ ghost use Rattle.jsonptr.specs.Pointer.{tokens};
 ghost use Rattle.jsonptr.specs.Json.{nodes};
 ghost use Rattle.jsonptr_edit_in_text.specs.Bytes.{AssignsBytes};
 ghost use Rattle.jsonptr_text_value.specs.Raw.{value_of_raw};
-ghost use Rattle.jsonptr_edit_in_text.specs.Carrying.{Carries};
+ghost use Rattle.jsonptr_edit_in_text.specs.Giving.{AssignsGiven};
 ghost use Rattle.jsonptr_edit_in_text.specs.EditInText.{AssignsInText, IsAssignError};
 ghost use Rattle.jsonptr_edit_with_comments.specs.EditWithComments.{Becomes, EditsAs, IsWithCommentsError};
 ghost use Rattle.jsonptr_edit_with_comments.specs.Edits.{IsOneEdit};
@@ -111,7 +111,7 @@ pub fn assign_raw_with_comments(
         (λ old new. AssignsInText old (tokens pointer.entry) (nodes (value_of_raw raw.now)) new) text.now (string_bytes s)) }
     ensures bytes { IfOk result (λ s. EditsAs
         (λ old new. AssignsBytes old (tokens pointer.entry) (value_of_raw raw.now) new
-        × Carries (string_bytes raw.now.printed.flat) new) text.now (string_bytes s)) }
+        × AssignsGiven old (tokens pointer.entry) raw.now new) text.now (string_bytes s)) }
     ensures pieces { IfOk result (λ s. IsOneEdit text.now (string_bytes s)) }
     ensures refused { IfErr result (IsWithCommentsError
         (λ old new. AssignsInText old (tokens pointer.entry) (nodes (value_of_raw raw.now)) new)

@@ -1,9 +1,9 @@
 -- Tokens that are read in two texts, and parts of a text.
-use Rattle.std.proofs.Common.{◌≡◌, ℕ, List, [], ◌∷◌, ◌++◌, Option, Some, None, refl, sym, ap, ◌∙◌, append_assoc, append-nil}
+use Rattle.std.proofs.Common.{◌≡◌, ℕ, List, [], ◌∷◌, ◌++◌, Some, None, refl, sym, ap, ◌∙◌, append_assoc, append-nil}
 use Rattle.json.specs.Token.{Token}
 use Rattle.json.specs.Json.{after_end_array, read_key}
 use Rattle.json.proofs.Grammar.{closed_array, read_key_is}
-use Rattle.jsonptr_json_edits.specs.Alike.{HoldsTokens, HoldsIf, AreAlike}
+use Rattle.jsonptr_json_edits.specs.Alike.{HoldsTokens, AreAlike}
 
 pub alike_begin : (old old2 : List Token) → AreAlike old old old2 old2
 alike_begin old old2 = ([], refl, refl)
@@ -50,10 +50,3 @@ holds_within given u t a b is h = record {
   same = h.same;
   trimmed = h.trimmed;
 }
-
-pub holds_if_within : (given : Option (List ℕ)) (u t a b : List ℕ) → t ≡ a ++ (u ++ b) → HoldsIf given u → HoldsIf given t
-holds_if_within None u t a b is h = tt
-holds_if_within (Some given) u t a b is h = holds_within given u t a b is h
-
-pub holds_if_after : (given : Option (List ℕ)) (u t a b : List ℕ) → t ≡ a ++ (b ++ u) → HoldsIf given u → HoldsIf given t
-holds_if_after given u t a b is h = holds_if_within given u t (a ++ b) [] (is ∙ sym (append_assoc a b u) ∙ ap (λ l. (a ++ b) ++ l) (sym (append-nil u))) h

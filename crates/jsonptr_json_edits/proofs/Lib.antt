@@ -1,6 +1,7 @@
 pub mod AddingLemmas
 pub mod AlikeLemmas
 pub mod ChildLemmas
+pub mod ChildTextLemmas
 pub mod LeadingLemmas
 pub mod SideLemmas
 mod PieceLaws

@@ -13,10 +13,10 @@ pub record HoldsTokens (given t : List ℕ) : Type 0 where
   pub same : tokens part ≡ tokens given
   pub trimmed : IsTrimmed part
 
--- `HoldsIf given t`: the same, if a text is given
-abbrev pub HoldsIf : Option (List ℕ) → List ℕ → Type 0
-HoldsIf None t = ⊤
-HoldsIf (Some given) t = HoldsTokens given t
+-- `HasTokensIf given t`: if a text is given, the text `t` has its tokens, one for one
+abbrev pub HasTokensIf : Option (List ℕ) → List ℕ → Type 0
+HasTokensIf None t = ⊤
+HasTokensIf (Some given) t = tokens t ≡ tokens given
 
 -- `AreAlike old new old2 new2`: the tokens `old` and `old2` begin with the same ones, and go on with `new` and `new2`
 abbrev pub AreAlike : List Token → List Token → List Token → List Token → Type 0

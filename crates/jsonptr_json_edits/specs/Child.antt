@@ -25,6 +25,11 @@ abbrev pub IsChildText : Option (List ℕ) → Data → List ℕ → Type 0
 IsChildText None e t = IsValueText e t
 IsChildText (Some k) e t = IsMemberText k e t
 
+-- `child_value k e t h`: the text of the value in the text `t` of a child
+abbrev pub child_value : (k : Option (List ℕ)) (e : Data) (t : List ℕ) → IsChildText k e t → List ℕ
+child_value None e t h = t
+child_value (Some k) e t h = h.value
+
 -- `HaveOneComma lead trail`: both texts are white space, and one of them may have one comma
 abbrev pub HaveOneComma : List ℕ → List ℕ → Type 0
 HaveOneComma lead trail =
@@ -38,6 +43,10 @@ pub record IsOneChild (k : Option (List ℕ)) (e : Data) (t : List ℕ) : Type 0
   pub is : t ≡ lead ++ (child ++ trail)
   pub whole : IsChildText k e child
   pub beside : HaveOneComma lead trail
+
+-- `value_part k e t h`: the text of its value
+abbrev pub value_part : (k : Option (List ℕ)) (e : Data) (t : List ℕ) → IsOneChild k e t → List ℕ
+value_part k e t h = child_value k e h.child h.whole
 
 -- `IsReadAs given e`: the text reads as the value `e`, if one is given
 abbrev pub IsReadAs : Option (List ℕ) → Data → Type 0

@@ -1,10 +1,11 @@
 //! The text of one child of an array or an object.
-ghost use Rattle.std.specs.Prelude.{◌≡◌, Some, OnOk, IfOk, IsTrue, option_map};
+ghost use Rattle.std.specs.Prelude.{◌≡◌, ◌++◌, Some, OnOk, IfOk, IfSome, IsTrue, option_map};
 ghost use Rattle.json.specs.Lex.{tokens};
 ghost use Rattle.serde_json.specs.Data.{Data, string};
 ghost use Rattle.serde_json.specs.Read.{read};
-ghost use Rattle.jsonptr_json_edits.specs.Alike.{HoldsTokens, HoldsIf};
-ghost use Rattle.jsonptr_json_edits.specs.Child.{IsValueText, IsMemberText, HaveOneComma, IsOneChild, IsReadAs};
+ghost use Rattle.jsonptr_json_edits.specs.Alike.{HasTokensIf};
+ghost use Rattle.jsonptr_json_edits.specs.Child.{IsValueText, HaveOneComma, IsOneChild, IsReadAs};
+ghost use Rattle.jsonptr_json_edits.specs.PrivateChild.{IsNameIf, IsCutChild};
 
 use crate::buffers::Buffers;
 use crate::check_error::CheckError;
@@ -18,9 +19,72 @@ use jsonptr_json_search::skip::skip;
 use jsonptr_value::MAX_DEPTH;
 use std::alloc::AllocError;
 
-/// Returns whether the text is that of one child, with at most one comma and white space beside it.
-/// A member has the key. If a value is given, which is JSON text, it is that of the child. `extent` says
-/// where the child is in the text.
+/// A text of one child of an array or an object, in its parts. It borrows the text.
+#[derive(Clone, Copy, Debug, Drop)]
+pub struct ChildText<'t> {
+    /// What is before the child: white space, and perhaps a comma.
+    pub lead: &'t str,
+    /// The name of a member, and the colon with white space around it. It is empty for an element.
+    pub name: &'t str,
+    /// The text of the value.
+    pub value: &'t str,
+    /// What is after the child: white space, and perhaps a comma.
+    pub trail: &'t str,
+}
+
+/// Returns the parts of the text, or `None` if it is not that of one child, with at most one comma and white
+/// space beside it. A member has the key. If a value is given, which is JSON text, that of the child has the
+/// same tokens. `extent` says where the child is in the text.
+///
+/// # Errors
+///
+/// [`AllocError`] if there is no memory for the unescaped strings of a text.
+///
+/// # Examples
+///
+/// ```rust
+/// let mut buffers = Buffers::new(alloc);
+/// let extent = Extent { child: Span { from: 2, to: 9 }, value: 8 };
+/// let parts = one_child(&mut buffers, ", \"a\" : 1", extent, Some("a"), None)?.ok_or("a child")?;
+/// assert_eq!(rt; (parts.name, parts.value, parts.trail), ("\"a\" : ", "1", ""));
+/// ```
+pub fn one_child<'t>(
+    buffers: &mut Buffers,
+    text: &'t str,
+    extent: Extent,
+    key: Option<&str>,
+    json: Option<&str>,
+) -> Result<Option<ChildText<'t>>, AllocError>
+    ensures whole { IfOk result (λ found. IfSome found (λ parts. text.entry.now
+        ≡ parts.lead.now ++ (parts.name.now ++ (parts.value.now ++ parts.trail.now)))) }
+    ensures child { IfOk result (λ found. IfSome found (λ parts. (e : Data)
+        × IsReadAs (option_map (λ v. v.now) json.entry) e
+        × IsCutChild (option_map (λ k. k.now) key.entry) e text.entry.now parts.value.now parts.trail.now)) }
+    ensures same { IfOk result (λ found. IfSome found (λ parts.
+        HasTokensIf (option_map (λ v. v.now) json.entry) parts.value.now)) }
+{
+    let Some(parts) = cut_at(text, extent.child.from, extent.child.to) else {
+        return Ok(None);
+    };
+    if !have_one_comma(parts.before, parts.after) {
+        return Ok(None);
+    }
+    let from = extent.value.saturating_sub(extent.child.from);
+    let Some(child) = named_value(&mut buffers.old, parts.middle, from, key)? else {
+        return Ok(None);
+    };
+    if !is_value(buffers, child.value, json)? {
+        return Ok(None);
+    }
+    Ok(Some(ChildText {
+        lead: parts.before,
+        name: child.name,
+        value: child.value,
+        trail: parts.after,
+    }))
+}
+
+/// Returns whether the text is that of one child, as [`one_child`] does.
 ///
 /// # Errors
 ///
@@ -32,24 +96,13 @@ pub fn is_one_child(
     key: Option<&str>,
     json: Option<&str>,
 ) -> Result<bool, AllocError>
-    ensures child { IfOk result (λ b. IsTrue b → (e : Data)
+    ensures { IfOk result (λ b. IsTrue b → (e : Data)
         × IsReadAs (option_map (λ v. v.now) json.entry) e
         × IsOneChild (option_map (λ k. k.now) key.entry) e text.now) }
-    ensures holds { IfOk result
-        (λ b. IsTrue b → HoldsIf (option_map (λ v. v.now) json.entry) text.now) }
 {
-    let Some(parts) = cut_at(text, extent.child.from, extent.child.to) else {
-        return Ok(false);
-    };
-    if !have_one_comma(parts.before, parts.after) {
-        return Ok(false);
-    }
-    match key {
-        None => is_value(buffers, parts.middle, json),
-        Some(key) => {
-            let from = extent.value.saturating_sub(extent.child.from);
-            is_member(buffers, parts.middle, from, key, json)
-        }
+    match one_child(buffers, text, extent, key, json)? {
+        Some(_) => Ok(true),
+        None => Ok(false),
     }
 }
 
@@ -64,29 +117,54 @@ fn have_one_comma(lead: &str, trail: &str) -> bool
     }
 }
 
-/// Returns whether the text is that of a member with the key, and with the value if one is given. Its
-/// value begins at the offset.
-fn is_member(
-    buffers: &mut Buffers,
-    text: &str,
+/// A child without what is beside it. It borrows the text.
+#[derive(Clone, Copy, Debug, Drop)]
+struct NamedValue<'t> {
+    /// The name of a member, and the colon with white space around it.
+    name: &'t str,
+    /// The text of the value.
+    value: &'t str,
+}
+
+/// Returns the text cut before its value, which begins at the offset, or `None` if the name before it is not
+/// that of a member with the key. Without a key all of it is the value.
+fn named_value<'t>(
+    scratch: &mut Scratch,
+    text: &'t str,
     from: usize,
-    key: &str,
-    json: Option<&str>,
-) -> Result<bool, AllocError>
-    ensures member { IfOk result (λ b. IsTrue b → (e : Data)
-        × IsReadAs (option_map (λ v. v.now) json.entry) e × IsMemberText key.now e text.now) }
-    ensures holds { IfOk result
-        (λ b. IsTrue b → HoldsIf (option_map (λ v. v.now) json.entry) text.now) }
+    key: Option<&str>,
+) -> Result<Option<NamedValue<'t>>, AllocError>
+    ensures whole { IfOk result (λ found. IfSome found
+        (λ child. text.entry.now ≡ child.name.now ++ child.value.now)) }
+    ensures named { IfOk result (λ found. IfSome found
+        (λ child. IsNameIf (option_map (λ k. k.now) key.entry) child.name.now)) }
+{
+    let Some(key) = key else {
+        return Ok(Some(NamedValue {
+            name: "",
+            value: text,
+        }));
+    };
+    let Some((name, value)) = text.split_at_checked(from) else {
+        return Ok(None);
+    };
+    if is_member_name(scratch, name, key)? {
+        Ok(Some(NamedValue { name, value }))
+    } else {
+        Ok(None)
+    }
+}
+
+/// Returns whether the text is the name of a member with the key, and a colon with white space around it.
+fn is_member_name(scratch: &mut Scratch, text: &str, key: &str) -> Result<bool, AllocError>
+    ensures { IfOk result (λ b. IsTrue b → IsNameIf (Some key.now) text.now) }
 {
     let bytes = text.as_bytes();
-    let colon = trimmed_end(bytes, from).saturating_sub(1);
-    let Some(parts) = cut_at(text, trimmed_end(bytes, colon), from) else {
+    let colon = trimmed_end(bytes, text.len()).saturating_sub(1);
+    let Some((name, rest)) = text.split_at_checked(trimmed_end(bytes, colon)) else {
         return Ok(false);
     };
-    if !is_colon(parts.middle) || !is_name(&mut buffers.old, parts.before, key)? {
-        return Ok(false);
-    }
-    is_value(buffers, parts.after, json)
+    Ok(is_colon(rest) && is_name(scratch, name, key)?)
 }
 
 /// Returns whether the text is a string with this content, without white space around it.
@@ -115,8 +193,8 @@ fn is_string(scratch: &mut Scratch, text: &str, content: &str) -> Result<bool, A
 fn is_value(buffers: &mut Buffers, text: &str, json: Option<&str>) -> Result<bool, AllocError>
     ensures value { IfOk result (λ b. IsTrue b → (e : Data)
         × IsReadAs (option_map (λ v. v.now) json.entry) e × IsValueText e text.now) }
-    ensures holds { IfOk result
-        (λ b. IsTrue b → HoldsIf (option_map (λ v. v.now) json.entry) text.now) }
+    ensures same { IfOk result
+        (λ b. IsTrue b → HasTokensIf (option_map (λ v. v.now) json.entry) text.now) }
 {
     match json {
         Some(json) => is_value_of(buffers, text, json),
@@ -152,7 +230,6 @@ fn is_some_value(scratch: &mut Scratch, text: &str) -> Result<bool, AllocError>
 pub fn is_value_of(buffers: &mut Buffers, text: &str, other: &str) -> Result<bool, AllocError>
     ensures value { IfOk result (λ b. IsTrue b → (e : Data) × (read other.now ≡ Some e)
         × IsValueText e text.now) }
-    ensures holds { IfOk result (λ b. IsTrue b → HoldsTokens other.now text.now) }
     ensures same { IfOk result (λ b. IsTrue b → tokens text.now ≡ tokens other.now) }
 {
     match pass_both(buffers, text, other) {

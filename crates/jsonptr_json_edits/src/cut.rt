@@ -1,5 +1,5 @@
 //! A text that is cut at two offsets, and a text with the piece between them replaced.
-ghost use Rattle.std.specs.Prelude.{◌≡◌, ◌++◌, IfOk, IfSome, string_bytes};
+ghost use Rattle.std.specs.Prelude.{◌≡◌, ℕ, List, ◌++◌, IfOk, IfSome, string_bytes};
 
 use std::alloc::{AllocError, Global};
 
@@ -39,6 +39,22 @@ pub fn cut_at(text: &str, from: usize, to: usize) -> Option<Cut<'_>>
         middle,
         after,
     })
+}
+
+/// Returns what is after `front` in the text, which begins with it. Returns `None` if the text is shorter.
+///
+/// Looks at the length of `front` alone.
+///
+/// # Examples
+///
+/// ```rust
+/// assert_eq!(rt; after_front("[1, 2]", "[1").ok_or("a text")?, ", 2]");
+/// ```
+pub fn after_front<'t>(text: &'t str, front: &str) -> Option<&'t str>
+    ensures { (rest : List ℕ) → text.now ≡ front.now ++ rest → IfSome result (λ t. t.now ≡ rest) }
+{
+    let (_, rest) = text.split_at_checked(front.len())?;
+    Some(rest)
 }
 
 /// Returns the text with `piece` instead of what is between the two offsets.

@@ -4,6 +4,7 @@
 //! and has its clause as a fact.
 ghost use Rattle.std.specs.Prelude.{◌≡◌, ◌↔◌, ◌||◌, IsTrue};
 ghost use Rattle.jsonptr_json_edits.specs.PrivateEditing.{MayFollow};
+ghost use Rattle.jsonptr_json_edits.specs.PrivateLeading.{IsStep};
 
 /// The member that a selector leads to.
 #[derive(Clone, Copy, Debug)]
@@ -23,6 +24,30 @@ pub struct FoundMember<'a> {
     pub wanted: bool,
     /// Whether it has the key of the wanted one.
     pub named: bool,
+}
+
+/// What is done with a child of an array or an object, on the way to a value.
+#[derive(Clone, Copy, Debug)]
+pub enum Step {
+    /// It is before the child that leads to the value, and is passed over.
+    Skip,
+    /// It leads to the value.
+    Enter,
+    /// It is after that child, and is read in two texts.
+    Follow,
+}
+
+/// Returns what is done with a child: whether it is the wanted one, after the wanted one was entered or not.
+pub fn step_of(is_done: bool, wanted: bool) -> Step
+    ensures { IsStep is_done wanted result }
+{
+    if is_done {
+        Step::Follow
+    } else if wanted {
+        Step::Enter
+    } else {
+        Step::Skip
+    }
 }
 
 /// Returns whether the count is this index.

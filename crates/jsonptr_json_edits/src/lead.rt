@@ -4,14 +4,14 @@ ghost use Rattle.serde_json.specs.Data.{Data, Items, Members};
 ghost use Rattle.serde_json.specs.Find.{get_member, get_item};
 ghost use Rattle.jsonptr_json_search.specs.Reading.{ReadsTokens, ReadsItems, ReadsMembers};
 ghost use Rattle.jsonptr_json_search.specs.Search.{choices};
-ghost use Rattle.jsonptr_json_edits.specs.Leading.{LeadsToText, LeadsInText};
-ghost use Rattle.jsonptr_json_edits.specs.PrivateLeading.{LeadsIf, ChildLeads};
+ghost use Rattle.jsonptr_json_edits.specs.Leading.{LeadsToText, LeadsInText, BeginsAt};
+ghost use Rattle.jsonptr_json_edits.specs.PrivateLeading.{LeadsIf, ChildLeads, Placed, PlacedIf, KeyIf, PlacesElement, EndsMember};
 
 use crate::buffers::Buffers;
 use crate::check_error::CheckError;
-use crate::decide::{Wanted, is_at, is_either, may_follow};
-use crate::same::same_text;
-use json::{Reader, Scratch, Token};
+use crate::decide::{Step, Wanted, is_at, is_either, may_follow, step_of};
+use crate::same::{Readers, same, same_key, same_text};
+use json::{Invalid, Reader, Scratch, Token};
 use jsonptr_json_search::decide::is_text;
 use jsonptr_json_search::selector::Selector;
 use jsonptr_json_search::skip::skip;
@@ -28,19 +28,35 @@ pub struct Route<'a> {
     pub positions: &'a [usize],
     /// A JSON text of the value.
     pub value: &'a str,
+    /// What is left of the text where the value begins.
+    pub tail: &'a str,
 }
 
-/// Returns whether the selectors of the target lead to its value in the text.
+/// Returns whether the selectors of the target lead to its value in the text, where its tail begins.
 ///
-/// Reads the text once, and builds no document. The positions are those that
-/// [`is_edited`](crate::check::is_edited) looks at. The tokens of the value must be those of the text there, one for one.
+/// Reads the text once, the tail beside it, and the value twice. Builds no document. The positions are those
+/// that [`is_edited`](crate::check::is_edited) looks at. The tokens of the value must be those of the text
+/// there, one for one, and so must those of the tail.
 ///
 /// # Errors
 ///
 /// [`AllocError`] if there is no memory for the unescaped strings of a text.
+///
+/// # Examples
+///
+/// ```rust
+/// let mut buffers = Buffers::new(alloc);
+/// let selectors = vec![in alloc; Selector { key: String::new(alloc), index: Some(1) }]?;
+/// let mut target = Route { selectors: &selectors, positions: &[1], value: "5", tail: "5]" };
+/// assert!(rt; leads_to(&mut buffers, "[15, 5]", target)?);
+/// target.tail = "5, 5]";
+/// assert!(rt; !leads_to(&mut buffers, "[15, 5]", target)?);
+/// ```
 pub fn leads_to(buffers: &mut Buffers, text: &str, target: Route<'_>) -> Result<bool, AllocError>
-    ensures { IfOk result (λ b. IsTrue b
+    ensures leads { IfOk result (λ b. IsTrue b
         → LeadsInText text.now (choices target.entry.selectors.now) target.entry.value.now) }
+    ensures begins { IfOk result (λ b. IsTrue b → BeginsAt (choices target.entry.selectors.now) text.now
+        target.entry.value.now target.entry.tail.now) }
 {
     match check(buffers, text, target) {
         Ok(()) => Ok(true),
@@ -49,23 +65,29 @@ pub fn leads_to(buffers: &mut Buffers, text: &str, target: Route<'_>) -> Result<
     }
 }
 
-/// Reads the text, in which the selectors lead to the value.
+/// Reads the text, in which the selectors lead to the value, and the tail beside it.
 ///
 /// # Errors
 ///
 /// [`CheckError::Mismatch`] if they do not, and [`CheckError::Memory`] if an allocation fails.
 fn check(buffers: &mut Buffers, text: &str, target: Route<'_>) -> Result<(), CheckError>
-    ensures { OnOk result (LeadsInText text.now (choices target.entry.selectors.now) target.entry.value.now) }
+    ensures leads { OnOk result
+        (LeadsInText text.now (choices target.entry.selectors.now) target.entry.value.now) }
+    ensures begins { OnOk result (BeginsAt (choices target.entry.selectors.now) text.now
+        target.entry.value.now target.entry.tail.now) }
 {
-    let mut reader = Reader::new(text, &mut buffers.old)?;
-    pass(&mut buffers.value, &mut reader, MAX_DEPTH, target)?;
-    if reader.next().is_some() {
+    let one = Reader::new(text, &mut buffers.old)?;
+    let two = Reader::new(target.tail, &mut buffers.new)?;
+    let mut readers = Readers { one, two };
+    pass(&mut buffers.value, &mut readers, MAX_DEPTH, target)?;
+    if readers.one.next().is_some() || readers.two.next().is_some() {
         return Err(CheckError::Mismatch);
     }
     Ok(())
 }
 
-/// Passes over the next value, in which the selectors lead to the target.
+/// Passes over the next value of the text, in which the selectors lead to the target, and over what the tail
+/// has of it.
 ///
 /// # Errors
 ///
@@ -73,16 +95,19 @@ fn check(buffers: &mut Buffers, text: &str, target: Route<'_>) -> Result<(), Che
 #[cycle(pass)]
 fn pass(
     scratch: &mut Scratch,
-    reader: &mut Reader<'_>,
+    readers: &mut Readers<'_>,
     depth: usize,
     target: Route<'_>,
 ) -> Result<(), CheckError>
-    ensures passed { OnOk result ((d : Data) × ReadsTokens depth reader.old d reader.new
+    ensures passed { OnOk result ((d : Data) × ReadsTokens depth readers.old.one d readers.new.one
         × LeadsToText (choices target.entry.selectors.now) target.entry.value.now d) }
-    ensures shorter { OnOk result (length reader.new < length reader.old) }
+    ensures placed { OnOk result (Placed (choices target.entry.selectors.now) target.entry.value.now
+        readers.old.one readers.new.one readers.old.two readers.new.two) }
+    ensures shorter { OnOk result (length readers.new.one < length readers.old.one) }
 {
     let Some((selector, selectors)) = target.selectors.split_first() else {
-        same_text(scratch, reader, depth, target.value)?;
+        same_text(scratch, &mut readers.one, depth, target.value)?;
+        same_text(scratch, &mut readers.two, depth, target.value)?;
         return Ok(());
     };
     let Some((position, positions)) = target.positions.split_first() else {
@@ -92,8 +117,9 @@ fn pass(
         selectors,
         positions,
         value: target.value,
+        tail: target.tail,
     };
-    let Some(token) = reader.next() else {
+    let Some(token) = readers.one.next() else {
         return Err(CheckError::Mismatch);
     };
     if depth == 0 {
@@ -102,7 +128,7 @@ fn pass(
     match token {
         Token::BeginArray => {
             let index = selector.index.ok_or(CheckError::Mismatch)?;
-            pass_element(scratch, reader, depth - 1, index, rest)?;
+            pass_element(scratch, readers, depth - 1, index, rest)?;
             Ok(())
         }
         Token::BeginObject => {
@@ -111,7 +137,7 @@ fn pass(
                 key,
                 position: *position,
             };
-            pass_member(scratch, reader, depth - 1, wanted, rest)?;
+            pass_member(scratch, readers, depth - 1, wanted, rest)?;
             Ok(())
         }
         _ => Err(CheckError::Mismatch),
@@ -126,27 +152,30 @@ fn pass(
 #[cycle(pass)]
 fn pass_element(
     scratch: &mut Scratch,
-    reader: &mut Reader<'_>,
+    readers: &mut Readers<'_>,
     depth: usize,
     index: usize,
     target: Route<'_>,
 ) -> Result<(), CheckError>
-    ensures passed { OnOk result ((ds : Items) × ReadsItems depth reader.old ds reader.new
+    ensures passed { OnOk result ((ds : Items) × ReadsItems depth readers.old.one ds readers.new.one
         × ChildLeads (get_item index ds) (choices target.entry.selectors.now) target.entry.value.now) }
-    ensures shorter { OnOk result (length reader.new < length reader.old) }
+    ensures placed { OnOk result (PlacesElement index (choices target.entry.selectors.now)
+        target.entry.value.now readers.old.one readers.new.one readers.old.two readers.new.two) }
+    ensures shorter { OnOk result (length readers.new.one < length readers.old.one) }
 {
     let mut count = 0;
     let mut is_done = false;
-    'elements: while !reader.take_end_array() {
+    'elements: while !readers.one.take_end_array() {
         if count == usize::MAX {
             return Err(CheckError::Mismatch);
         }
         let wanted = is_at(count, index);
-        visit(scratch, reader, depth, wanted, target)?;
+        let step = step_of(is_done, wanted);
+        visit(scratch, readers, depth, step, target)?;
         is_done = is_either(is_done, wanted);
         count += 1;
     }
-    if !is_done {
+    if !is_done || !readers.two.take_end_array() {
         return Err(CheckError::Mismatch);
     }
     Ok(())
@@ -161,35 +190,55 @@ fn pass_element(
 #[cycle(pass)]
 fn pass_member(
     scratch: &mut Scratch,
-    reader: &mut Reader<'_>,
+    readers: &mut Readers<'_>,
     depth: usize,
     member: Wanted<'_>,
     target: Route<'_>,
 ) -> Result<(), CheckError>
-    ensures passed { OnOk result ((ms : Members) × ReadsMembers depth reader.old ms reader.new
+    ensures passed { OnOk result ((ms : Members) × ReadsMembers depth readers.old.one ms readers.new.one
         × ChildLeads (get_member member.entry.key.now ms) (choices target.entry.selectors.now)
         target.entry.value.now) }
-    ensures shorter { OnOk result (length reader.new < length reader.old) }
+    ensures placed { OnOk result (EndsMember member.entry.key.now (choices target.entry.selectors.now)
+        target.entry.value.now readers.old.one readers.new.one readers.old.two readers.new.two) }
+    ensures shorter { OnOk result (length readers.new.one < length readers.old.one) }
 {
     let mut count = 0usize;
     let mut is_done = false;
-    'members: while let Some(name) = reader.next_key()? {
+    'members: while let Some(name) = readers.one.next_key()? {
         let wanted = is_at(count, member.position);
         let named = is_text(name, member.key);
         if !may_follow(is_done, wanted, named) {
             return Err(CheckError::Mismatch);
         }
-        visit(scratch, reader, depth, wanted, target)?;
+        key_if(&mut readers.two, is_done, name)?;
+        let step = step_of(is_done, wanted);
+        visit(scratch, readers, depth, step, target)?;
         is_done = is_either(is_done, wanted);
         count = count.saturating_add(1);
     }
-    if !is_done {
+    if !is_done || readers.two.next_key()?.is_some() {
         return Err(CheckError::Mismatch);
     }
     Ok(())
 }
 
-/// Passes over the next value. If it is wanted, the selectors lead from it to the target.
+/// Reads the key in the tail, if the tail has been reached.
+///
+/// # Errors
+///
+/// [`Invalid`] if another key is there, or none.
+fn key_if(reader: &mut Reader<'_>, is_done: bool, key: &str) -> Result<(), Invalid>
+    ensures { OnOk result (KeyIf is_done key.now reader.old reader.new) }
+{
+    if is_done {
+        same_key(reader, key)
+    } else {
+        Ok(())
+    }
+}
+
+/// Passes over the next value of the text. If it is entered, the selectors lead from it to the target. If it
+/// is after that, it is in the tail too.
 ///
 /// # Errors
 ///
@@ -197,19 +246,26 @@ fn pass_member(
 #[cycle(pass)]
 fn visit(
     scratch: &mut Scratch,
-    reader: &mut Reader<'_>,
+    readers: &mut Readers<'_>,
     depth: usize,
-    wanted: bool,
+    step: Step,
     target: Route<'_>,
 ) -> Result<(), CheckError>
-    ensures passed { OnOk result ((d : Data) × ReadsTokens depth reader.old d reader.new
-        × LeadsIf wanted (choices target.entry.selectors.now) target.entry.value.now d) }
-    ensures shorter { OnOk result (length reader.new < length reader.old) }
+    ensures passed { OnOk result ((d : Data) × ReadsTokens depth readers.old.one d readers.new.one
+        × LeadsIf step (choices target.entry.selectors.now) target.entry.value.now d) }
+    ensures placed { OnOk result (PlacedIf step (choices target.entry.selectors.now)
+        target.entry.value.now readers.old.one readers.new.one readers.old.two readers.new.two) }
+    ensures shorter { OnOk result (length readers.new.one < length readers.old.one) }
 {
-    if wanted {
-        pass(scratch, reader, depth, target)
-    } else {
-        skip(reader, depth)?;
-        Ok(())
+    match step {
+        Step::Skip => {
+            skip(&mut readers.one, depth)?;
+            Ok(())
+        }
+        Step::Enter => pass(scratch, readers, depth, target),
+        Step::Follow => {
+            same(&mut readers.one, &mut readers.two, depth, depth)?;
+            Ok(())
+        }
     }
 }

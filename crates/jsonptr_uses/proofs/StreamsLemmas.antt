@@ -7,7 +7,7 @@ use Rattle.jsonptr.specs.Text.{Text}
 use Rattle.jsonptr.specs.declared.pointer.Pointer.{Pointer}
 use Rattle.jsonptr_edit_in_text.specs.Bytes.{AssignsBytes}
 use Rattle.jsonptr_text_value.specs.Raw.{value_of_raw}
-use Rattle.jsonptr_edit_in_text.specs.Carrying.{Carries}
+use Rattle.jsonptr_edit_in_text.specs.Giving.{AssignsGiven}
 use Rattle.jsonptr_edit_in_text.specs.EditInText.{AssignsInText}
 use Rattle.jsonptr_text_value.specs.declared.raw_value.RawValue.{RawValue}
 use Rattle.jsonptr_io.specs.Streams.{ForInput}
@@ -24,7 +24,7 @@ for_input (Some bytes) P Q f h = f bytes h
 -- `Assigned p raw bytes out`: `out` is the text `bytes` with the raw value assigned
 abbrev Assigned : Pointer → RawValue → List ℕ → Text → Type 0
 Assigned p raw bytes out =
-    AssignsInText bytes (tokens p) (nodes (value_of_raw raw)) out × AssignsBytes bytes (tokens p) (value_of_raw raw) out × Carries (string_bytes raw.printed.flat) out
+    AssignsInText bytes (tokens p) (nodes (value_of_raw raw)) out × AssignsBytes bytes (tokens p) (value_of_raw raw) out × AssignsGiven bytes (tokens p) raw out
 
 assigned : (p : Pointer) (raw : RawValue) (bytes out : List ℕ) → Prints (Set p raw) Kept bytes out → Assigned p raw bytes out
 assigned p raw bytes out h = at h.1
@@ -37,7 +37,7 @@ assigned p raw bytes out h = at h.1
         subst (Assigned p raw bytes) (sym y.2) (y.1, more.0, more.1)
 
 pub set_puts : (r : Result (Unit {0}) TaskError) (p : Pointer) (raw : RawValue) (known w0 w1 : Option (List ℕ)) → IfOk r (λ x. PutsDocument (Set p raw) Kept known w0 w1)
-    → IfOk r (λ x. ForInput known (λ bytes. (out : Text) × AssignsInText bytes (tokens p) (nodes (value_of_raw raw)) out × AssignsBytes bytes (tokens p) (value_of_raw raw) out × Carries (string_bytes raw.printed.flat) out × Appends w0 w1 out))
+    → IfOk r (λ x. ForInput known (λ bytes. (out : Text) × AssignsInText bytes (tokens p) (nodes (value_of_raw raw)) out × AssignsBytes bytes (tokens p) (value_of_raw raw) out × AssignsGiven bytes (tokens p) raw out × Appends w0 w1 out))
 set_puts (Err e) p raw known w0 w1 h = h
 set_puts (Ok u) p raw known w0 w1 h =
     for_input known (λ bytes. (out : Text) × Prints (Set p raw) Kept bytes out × Appends w0 w1 out) _

@@ -6,7 +6,7 @@ ghost use Rattle.jsonptr.specs.Pointer.{tokens};
 ghost use Rattle.jsonptr.specs.Text.{Text};
 ghost use Rattle.jsonptr_edit_in_text.specs.Bytes.{AssignsBytes};
 ghost use Rattle.jsonptr_text_value.specs.Raw.{value_of_raw};
-ghost use Rattle.jsonptr_edit_in_text.specs.Carrying.{Carries};
+ghost use Rattle.jsonptr_edit_in_text.specs.Giving.{AssignsGiven};
 ghost use Rattle.jsonptr_edit_in_text.specs.EditInText.{AssignsInText};
 ghost use Rattle.jsonptr_io.specs.Streams.{ForInput};
 ghost use Rattle.jptr_tasks.specs.Documents.{StopsDocument};
@@ -38,7 +38,7 @@ pub fn set_in_stream<R: io::Read, W: io::Write>(
     ensures assigned { IfOk result (λ _. ForInput (R.remaining input.old) (λ bytes. (out : Text)
         × AssignsInText bytes (tokens pointer.entry) (nodes (value_of_raw raw)) out
         × AssignsBytes bytes (tokens pointer.entry) (value_of_raw raw) out
-        × Carries (string_bytes raw.printed.flat) out
+        × AssignsGiven bytes (tokens pointer.entry) raw out
         × Appends (W.contents output.old) (W.contents output.new) out)) }
     ensures refused { IfErr result (StopsDocument (Set pointer.entry raw) Kept
         (R.remaining input.old) (W.contents output.old) (W.contents output.new)) }

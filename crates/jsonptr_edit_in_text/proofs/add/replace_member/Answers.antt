@@ -4,9 +4,8 @@ use Rattle.jsonptr.specs.Pointer.{tokens}
 use Rattle.jsonptr_json_search.specs.Search.{choices}
 use Rattle.jsonptr_json_search.specs.declared.selector.Selector.{Selector}
 use Rattle.jsonptr_json_edits.specs.Editing.{IsEdited}
-use Rattle.jsonptr_json_edits.specs.Spacing.{Splices}
 use Rattle.jsonptr_edit_in_text.specs.PrivateOperating.{AddsInText, AddsAtByText, AreMemberChoices}
-use Rattle.jsonptr_edit_in_text.specs.PrivateReaching.{IsValueEdit}
+use Rattle.jsonptr_edit_in_text.specs.PrivateReaching.{IsValueEdit, SplicesAt}
 use Rattle.jsonptr_edit_in_text.specs.declared.replace.ValueEdit.{ValueEdit}
 use Rattle.jsonptr_edit_in_text.proofs.EditLemmas.{if_new, if_both}
 use Rattle.jsonptr_edit_in_text.proofs.OperatingLemmas.{replaced_cut, adds_in_place_of}
@@ -24,11 +23,11 @@ returns-clause-added c =
     let flat = string_bytes c.args.printed.now.flat in
     let are = subst (λ (ss : List Selector). AreMemberChoices front x (choices ss)) (sym c.deref.ensures.value) c.in_ok-selectors.ensures in
     let is = subst (λ (o : Option ValueEdit). IfSome o (IsValueEdit cut.middle.now flat)) c.in-Some-2.is c.in_ok-made.ensures in
-    if_new c.edit_by.result
+    if_new c.put_value.result
     (λ s. IsEdited cut.text.now (string_bytes s) cs made.edit)
     (λ s. AddsInText old (front ++ x ∷ []) flat (string_bytes s))
     (λ s h. adds_in_place_of old (string_bytes s) front x cut.middle.now flat (replaced_cut old cut.text.now (string_bytes s) front x cs cut.middle.now flat made c.in-Some.ensures are is h))
-    c.edit_by.ensures.edited
+    c.put_value.ensures.edited
 
 pub returns-clause-bytes : goal.returns-clause-bytes
 returns-clause-bytes c =
@@ -42,13 +41,15 @@ returns-clause-bytes c =
     let piece = string_bytes made.piece in
     let are = subst (λ (ss : List Selector). AreMemberChoices front x (choices ss)) (sym c.deref.ensures.value) c.in_ok-selectors.ensures in
     let is = subst (λ (o : Option ValueEdit). IfSome o (IsValueEdit cut.middle.now flat)) c.in-Some-2.is c.in_ok-made.ensures in
-    if_new c.edit_by.result
-    (λ s. IsEdited cut.text.now (string_bytes s) cs made.edit × Splices cut.text.now (string_bytes s) cut.middle.now piece)
+    let path = choices c.in_ok-path.path.items in
+    if_new c.put_value.result
+    (λ s. IsEdited cut.text.now (string_bytes s) cs made.edit × SplicesAt path cut.text.now (string_bytes s) cut.middle.now piece)
     (λ s. AddsAtByText old (front ++ x ∷ []) flat (string_bytes s))
-    (λ s h. adds_there_at old (string_bytes s) (front ++ x ∷ []) flat (replaced_member old (string_bytes s) front x cut.middle.now piece flat (subst (λ (t : Text). Splices t (string_bytes s) cut.middle.now piece) c.in-Some.ensures h.1)
-    (replaced_cut old cut.text.now (string_bytes s) front x cs cut.middle.now flat made c.in-Some.ensures are is h.0) is.trimmed is.reads is.holds))
-    (if_both c.edit_by.result
+    (λ s h. adds_there_at old (string_bytes s) (front ++ x ∷ []) flat (replaced_member old (string_bytes s) front x cut.middle.now piece flat path c.in_ok-path.ensures (subst (λ (t : Text). SplicesAt path t (string_bytes s) cut.middle.now piece) c.in-Some.ensures h.1)
+    (replaced_cut old cut.text.now (string_bytes s) front x cs cut.middle.now flat made c.in-Some.ensures are is h.0) is.trimmed is.reads is.same))
+    (if_both c.put_value.result
     (λ s. IsEdited cut.text.now (string_bytes s) cs made.edit)
-    (λ s. Splices cut.text.now (string_bytes s) cut.middle.now piece)
-    c.edit_by.ensures.edited
-    (subst (λ (p : Text). IfOk c.edit_by.result (λ o. IfSome o (λ s. Splices cut.text.now (string_bytes s) cut.middle.now p))) c.as_str.ensures.value c.edit_by.ensures.spliced))
+    (λ s. SplicesAt path cut.text.now (string_bytes s) cut.middle.now piece)
+    c.put_value.ensures.edited
+    (subst (λ (ss : List Selector). IfOk c.put_value.result (λ o. IfSome o (λ s. SplicesAt (choices ss) cut.text.now (string_bytes s) cut.middle.now piece))) c.deref-3.ensures.value
+    (subst (λ (p : Text). IfOk c.put_value.result (λ o. IfSome o (λ s. SplicesAt (choices c.deref-3.result.now) cut.text.now (string_bytes s) cut.middle.now p))) c.as_str.ensures.value c.put_value.ensures.placed)))

@@ -6,14 +6,12 @@ use Rattle.jsonptr_edit_in_text.specs.EditInText.{AssignsInText}
 use Rattle.jsonptr_text_value.specs.Wrapping.{IsExpanded}
 use Rattle.jsonptr_edit_in_text.specs.PrivateReaching.{ReachedInText, MemberAdded, ElementAppended}
 use Rattle.jsonptr_edit_in_text.proofs.EditLemmas.{if_new, of_member, assigns_member, of_element, assigns_end}
-use Rattle.jsonptr_edit_in_text.specs.Bytes.{AddsExpandedBytes}
+use Rattle.jsonptr_edit_in_text.specs.PrivateGiving.{AddsWith}
 use Rattle.jsonptr_edit_in_text.specs.PrivateReaching.{AddsByText}
 use Rattle.json.specs.Lex.{tokens as lexed}
 use Rattle.jsonptr_text_value.specs.Raw.{value_of_raw}
-use Rattle.jsonptr_edit_in_text.specs.Carrying.{Carries}
 use Rattle.jsonptr_text_value.specs.Wrapping.{wrapped}
 use Rattle.jsonptr_edit_in_text.proofs.BytesLemmas.{adds_expanded_bytes}
-use Rattle.jsonptr_edit_in_text.proofs.CarryingLemmas.{carries_wrapped}
 use Rattle.jsonptr_edit_in_text.proofs.assign.assign_child.Goals as goal
 
 pub returns-then-starts_with-clause-assigned : goal.returns-then-starts_with-clause-assigned
@@ -33,26 +31,16 @@ pub returns-then-starts_with-clause-bytes : goal.returns-then-starts_with-clause
 returns-then-starts_with-clause-bytes c =
     let old = c.args.site.now.text.now in
     let flat = string_bytes c.in-Some.printed.flat in
-    let v = value_of_raw c.args.raw.now in
-    let e = subst (λ (o : Option ValueText). IfSome o (IsExpanded (tokens c.args.missing.now.after) (nodes v))) c.in-Some.is c.in_ok-printed.ensures.value in
+    let raw = c.args.raw.now in
     let front = tokens c.args.site.now.pointer in
     let x = c.args.missing.now.token.now in
     let after = tokens c.args.missing.now.after in
+    let e = subst (λ (o : Option ValueText). IfSome o (IsExpanded after (nodes (value_of_raw raw)))) c.in-Some.is c.in_ok-printed.ensures.value in
+    let same = subst (λ (o : Option ValueText). IfSome o (λ t. lexed (string_bytes t.flat) ≡ wrapped after (lexed (string_bytes raw.printed.flat)))) c.in-Some.is c.in_ok-printed.ensures.same in
     if_new c.add_member.result
     (λ s. AddsByText old (string_bytes s) front x flat)
-    (λ s. AddsExpandedBytes old (string_bytes s) front x after v)
-    (λ s h. adds_expanded_bytes old (string_bytes s) front x after flat v e.0 e.1 e.2 h)
-    c.add_member.ensures.bytes
-
-pub returns-then-starts_with-clause-carries : goal.returns-then-starts_with-clause-carries
-returns-then-starts_with-clause-carries c =
-    let flat = string_bytes c.in-Some.printed.flat in
-    let given = string_bytes c.args.raw.now.printed.flat in
-    let same = subst (λ (o : Option ValueText). IfSome o (λ t. lexed (string_bytes t.flat) ≡ wrapped (tokens c.args.missing.now.after) (lexed given))) c.in-Some.is c.in_ok-printed.ensures.same in
-    if_new c.add_member.result
-    (λ s. AddsByText c.args.site.now.text.now (string_bytes s) (tokens c.args.site.now.pointer) c.args.missing.now.token.now flat)
-    (λ s. Carries given (string_bytes s))
-    (λ s h. carries_wrapped (tokens c.args.missing.now.after) given flat (string_bytes s) same h.3)
+    (λ s. AddsWith raw old (string_bytes s) front x after)
+    (λ s h. adds_expanded_bytes old (string_bytes s) front x after flat raw e.0 e.1 e.2 same h)
     c.add_member.ensures.bytes
 
 pub returns-clause-assigned : goal.returns-clause-assigned
@@ -72,24 +60,14 @@ pub returns-clause-bytes : goal.returns-clause-bytes
 returns-clause-bytes c =
     let old = c.args.site.now.text.now in
     let flat = string_bytes c.in-Some.printed.flat in
-    let v = value_of_raw c.args.raw.now in
-    let e = subst (λ (o : Option ValueText). IfSome o (IsExpanded (tokens c.args.missing.now.after) (nodes v))) c.in-Some.is c.in_ok-printed.ensures.value in
+    let raw = c.args.raw.now in
     let front = tokens c.args.site.now.pointer in
     let x = c.args.missing.now.token.now in
     let after = tokens c.args.missing.now.after in
+    let e = subst (λ (o : Option ValueText). IfSome o (IsExpanded after (nodes (value_of_raw raw)))) c.in-Some.is c.in_ok-printed.ensures.value in
+    let same = subst (λ (o : Option ValueText). IfSome o (λ t. lexed (string_bytes t.flat) ≡ wrapped after (lexed (string_bytes raw.printed.flat)))) c.in-Some.is c.in_ok-printed.ensures.same in
     if_new c.append.result
     (λ s. AddsByText old (string_bytes s) front x flat)
-    (λ s. AddsExpandedBytes old (string_bytes s) front x after v)
-    (λ s h. adds_expanded_bytes old (string_bytes s) front x after flat v e.0 e.1 e.2 h)
-    c.append.ensures.bytes
-
-pub returns-clause-carries : goal.returns-clause-carries
-returns-clause-carries c =
-    let flat = string_bytes c.in-Some.printed.flat in
-    let given = string_bytes c.args.raw.now.printed.flat in
-    let same = subst (λ (o : Option ValueText). IfSome o (λ t. lexed (string_bytes t.flat) ≡ wrapped (tokens c.args.missing.now.after) (lexed given))) c.in-Some.is c.in_ok-printed.ensures.same in
-    if_new c.append.result
-    (λ s. AddsByText c.args.site.now.text.now (string_bytes s) (tokens c.args.site.now.pointer) c.args.missing.now.token.now flat)
-    (λ s. Carries given (string_bytes s))
-    (λ s h. carries_wrapped (tokens c.args.missing.now.after) given flat (string_bytes s) same h.3)
+    (λ s. AddsWith raw old (string_bytes s) front x after)
+    (λ s h. adds_expanded_bytes old (string_bytes s) front x after flat raw e.0 e.1 e.2 same h)
     c.append.ensures.bytes

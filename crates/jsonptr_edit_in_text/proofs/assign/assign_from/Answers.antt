@@ -4,7 +4,8 @@ use Rattle.jsonptr.specs.Pointer.{tokens}
 use Rattle.jsonptr.specs.Json.{nodes}
 use Rattle.jsonptr_text_value.specs.Raw.{value_of_raw}
 use Rattle.jsonptr_edit_in_text.specs.EditInText.{AssignsInText}
-use Rattle.jsonptr_edit_in_text.specs.Bytes.{ReplacesBytes, ExpandsBytes, AddsExpandedBytes, AssignsBytes}
+use Rattle.jsonptr_edit_in_text.specs.Giving.{AssignsGiven}
+use Rattle.jsonptr_edit_in_text.specs.PrivateGiving.{ReplacesWith, ExpandsWith, AddsWith}
 use Rattle.jsonptr_edit_in_text.proofs.EditLemmas.{if_new}
 use Rattle.jsonptr_edit_in_text.proofs.assign.assign_from.Goals as goal
 
@@ -26,11 +27,11 @@ returns-then-starts_with-2-clause-bytes c =
     let front = tokens c.args.site.now.pointer in
     let x = c.in-Some.token in
     let after = tokens c.in-Some.after in
-    let v = value_of_raw c.args.raw.now in
+    let raw = c.args.raw.now in
     if_new c.assign_child.result
-    (λ s. AddsExpandedBytes old (string_bytes s) front x after v)
-    (λ s. AssignsBytes old (front ++ tokens c.args.rest) v (string_bytes s))
-    (λ s h. inr (front, x, after, ap (λ (ts : List Text). front ++ ts) c.in-Some.ensures, inr h))
+    (λ s. AddsWith raw old (string_bytes s) front x after)
+    (λ s. AssignsGiven old (front ++ tokens c.args.rest) raw (string_bytes s))
+    (λ s h. (inr (front, x, after, ap (λ (ts : List Text). front ++ ts) c.in-Some.ensures, inr h.0), h.1))
     c.assign_child.ensures.bytes
 
 pub returns-clause-bytes : goal.returns-clause-bytes
@@ -39,22 +40,23 @@ returns-clause-bytes c =
     let front = tokens c.args.site.now.pointer in
     let x = c.in-Some.token in
     let after = tokens c.in-Some.after in
-    let v = value_of_raw c.args.raw.now in
+    let raw = c.args.raw.now in
     if_new c.assign_scalar.result
-    (λ s. ExpandsBytes old (string_bytes s) front (tokens c.args.rest) v)
-    (λ s. AssignsBytes old (front ++ tokens c.args.rest) v (string_bytes s))
-    (λ s h. inr (front, x, after, ap (λ (ts : List Text). front ++ ts) c.in-Some.ensures, inl (subst (λ (ts : List Text). ExpandsBytes old (string_bytes s) front ts v) c.in-Some.ensures h)))
+    (λ s. ExpandsWith raw old (string_bytes s) front (tokens c.args.rest))
+    (λ s. AssignsGiven old (front ++ tokens c.args.rest) raw (string_bytes s))
+    (λ s h. let k = subst (λ (ts : List Text). ExpandsWith raw old (string_bytes s) front ts) c.in-Some.ensures h in
+    (inr (front, x, after, ap (λ (ts : List Text). front ++ ts) c.in-Some.ensures, inl k.0), k.1))
     c.assign_scalar.ensures.bytes
 
 pub returns-in_default-clause-bytes : goal.returns-in_default-clause-bytes
 returns-in_default-clause-bytes c =
     let old = c.args.site.now.text.now in
     let front = tokens c.args.site.now.pointer in
-    let v = value_of_raw c.args.raw.now in
+    let raw = c.args.raw.now in
     let root : tokens c.args.rest ≡ [] = grind arith in
     let all : front ++ tokens c.args.rest ≡ front = ap (λ (ts : List Text). front ++ ts) root ∙ append-nil front in
     if_new c.assign_there.result
-    (λ s. ReplacesBytes old (string_bytes s) front v)
-    (λ s. AssignsBytes old (front ++ tokens c.args.rest) v (string_bytes s))
-    (λ s h. inl (subst (λ (ts : List Text). ReplacesBytes old (string_bytes s) ts v) (sym all) h))
+    (λ s. ReplacesWith raw old (string_bytes s) front)
+    (λ s. AssignsGiven old (front ++ tokens c.args.rest) raw (string_bytes s))
+    (λ s h. let k = subst (λ (ts : List Text). ReplacesWith raw old (string_bytes s) ts) (sym all) h in (inl k.0, k.1))
     c.assign_there.ensures.bytes

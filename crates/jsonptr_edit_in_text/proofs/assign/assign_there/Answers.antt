@@ -1,15 +1,13 @@
 use Rattle.std.proofs.Common.{string_bytes}
 use Rattle.jsonptr.specs.Pointer.{tokens}
 use Rattle.jsonptr.specs.Json.{nodes}
-use Rattle.jsonptr_edit_in_text.specs.Bytes.{ReplacesBytes}
 use Rattle.jsonptr_text_value.specs.Raw.{value_of_raw}
-use Rattle.jsonptr_edit_in_text.specs.Carrying.{Carries}
 use Rattle.jsonptr_edit_in_text.specs.EditInText.{AssignsInText}
+use Rattle.jsonptr_edit_in_text.specs.PrivateGiving.{ReplacesWith}
 use Rattle.jsonptr_edit_in_text.specs.PrivateReaching.{ReachedInText, Becomes, ReplacesByText}
 use Rattle.jsonptr_edit_in_text.proofs.EditLemmas.{if_new, of_value}
-use Rattle.jsonptr_edit_in_text.proofs.BytesLemmas.{replaces_value}
+use Rattle.jsonptr_edit_in_text.proofs.BytesLemmas.{replaces_with}
 use Rattle.jsonptr_text_value.proofs.WrappingLemmas.{raw_reads}
-use Rattle.jsonptr_edit_in_text.proofs.CarryingLemmas.{carries_all}
 use Rattle.jsonptr_edit_in_text.proofs.assign.assign_there.Goals as goal
 
 pub returns-clause-assigned : goal.returns-clause-assigned
@@ -26,19 +24,9 @@ pub returns-clause-bytes : goal.returns-clause-bytes
 returns-clause-bytes c =
     let raw = c.args.raw.now in
     let old = c.args.site.now.text.now in
-    let flat = string_bytes raw.printed.flat in
     let ts = tokens c.args.site.now.pointer in
     if_new c.replace.result
-    (λ s. ReplacesByText old (string_bytes s) ts flat)
-    (λ s. ReplacesBytes old (string_bytes s) ts (value_of_raw raw))
-    (λ s h. replaces_value old (string_bytes s) ts flat (value_of_raw raw) (raw_reads raw) h)
-    c.replace.ensures.bytes
-
-pub returns-clause-carries : goal.returns-clause-carries
-returns-clause-carries c =
-    let flat = string_bytes c.args.raw.now.printed.flat in
-    if_new c.replace.result
-    (λ s. ReplacesByText c.args.site.now.text.now (string_bytes s) (tokens c.args.site.now.pointer) flat)
-    (λ s. Carries flat (string_bytes s))
-    (λ s h. carries_all flat (string_bytes s) h.3)
+    (λ s. ReplacesByText old (string_bytes s) ts (string_bytes raw.printed.flat))
+    (λ s. ReplacesWith raw old (string_bytes s) ts)
+    (λ s h. replaces_with old (string_bytes s) ts raw h)
     c.replace.ensures.bytes

@@ -1,4 +1,4 @@
-use Rattle.std.proofs.Common.{◌≡◌, Option, Some, None, String, IfSome, string_bytes, subst}
+use Rattle.std.proofs.Common.{◌≡◌, [], ◌∷◌, ◌++◌, Option, Some, None, String, IfSome, string_bytes, subst}
 use Rattle.std.specs.declared.alloc.Global.{Global}
 use Rattle.serde_json.specs.Data.{Data}
 use Rattle.serde_json.specs.Read.{read}
@@ -32,4 +32,4 @@ returns-then-branch-clause-bytes c =
     cuts_element old new value front c.args.token.now w c.in_ok-selector_of.ensures
     (subst (λ (v : Text). ReachedInText new old front (λ at at2. (e : Data) × (read v ≡ Some e) × AddsElement w e at at2)) c.in_ok-from_str.ensures.ok
     (subst (λ (t : Text). ReachedInText t old front (λ at at2. (e : Data) × (read (string_bytes c.in_ok-from_str.field-0) ≡ Some e) × AddsElement w e at at2)) c.as_str.ensures.value (c.in_ok-is_edited_at.ensures c.if-branch.true)))
-    (subst (λ (o : Option (String Global)). IfSome o (λ s. (v : Data) × (read value ≡ Some v) × CutsBytes old (string_bytes s) None v)) c.in-Some-2.is c.in_ok-new.ensures)
+    (subst (λ (o : Option (String Global)). IfSome o (λ s. (v : Data) × (read value ≡ Some v) × CutsBytes old (string_bytes s) (front ++ c.args.token.now ∷ []) None v)) c.in-Some-2.is c.in_ok-new.ensures)

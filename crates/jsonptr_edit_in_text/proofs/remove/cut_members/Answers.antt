@@ -1,4 +1,4 @@
-use Rattle.std.proofs.Common.{◌≡◌, List, Option, Some, String, IfSome, string_bytes, ◌∙◌, subst}
+use Rattle.std.proofs.Common.{◌≡◌, [], ◌∷◌, ◌++◌, List, Option, Some, String, IfSome, string_bytes, ◌∙◌, subst}
 use Rattle.std.specs.declared.alloc.Global.{Global}
 use Rattle.serde_json.specs.Data.{Data}
 use Rattle.serde_json.specs.Read.{read}
@@ -35,7 +35,6 @@ returns-then-branch-clause-bytes c =
     cuts_members old first new value front x w c.in_ok-selector.ensures
     (subst (λ (v : Text). ReachedInText new old front (λ at at2. (e : Data) × (read v ≡ Some e) × AddsChosenMember w e at at2)) c.in_ok-from_str.ensures.ok
     (subst (λ (t : Text). ReachedInText t old front (λ at at2. (e : Data) × (read (string_bytes c.in_ok-from_str.field-0) ≡ Some e) × AddsChosenMember w e at at2)) c.as_str.ensures.value (c.in_ok-is_edited_at.ensures c.if-branch.true)))
-    (subst (λ (k : Text). (v : Data) × (read value ≡ Some v) × CutsBytes old first (Some k) v) named
-    (subst (λ (o : Option (String Global)). IfSome o (λ s. (v : Data) × (read value ≡ Some v) × CutsBytes old (string_bytes s) (Some c.as_str-key.result.now) v)) c.in-Some-2.is c.in_ok-first.ensures))
-    (subst (λ (k : Text). (mids : List Text) × CutsInTurn k first mids new) named
-    (subst (λ (o : Option (String Global)). IfSome o (λ s. (mids : List Text) × CutsInTurn c.as_str-key.result.now first mids (string_bytes s))) c.in-Some-3.is c.in_ok-new.ensures))
+    (subst (λ (k : Text). (v : Data) × (read value ≡ Some v) × CutsBytes old first (front ++ x ∷ []) (Some k) v) named
+    (subst (λ (o : Option (String Global)). IfSome o (λ s. (v : Data) × (read value ≡ Some v) × CutsBytes old (string_bytes s) (front ++ x ∷ []) (Some c.as_str-key.result.now) v)) c.in-Some-2.is c.in_ok-first.ensures))
+    (subst (λ (o : Option (String Global)). IfSome o (λ s. (mids : List Text) × CutsInTurn front x first mids (string_bytes s))) c.in-Some-3.is (c.in_ok-new.ensures named))

@@ -14,4 +14,4 @@ returns-then-branch c =
     let items = c.in_ok-selectors.selectors.items in
     finds_text text (tokens c.args.pointer) (choices items) flat c.in_ok-selectors.ensures
     (subst (λ (ss : List Selector). LeadsInText text (choices ss) flat) c.deref-2.ensures.value
-    (subst (λ (t : Text). LeadsInText text (choices c.deref-2.result.now) t) c.as_str.ensures.value (c.in_ok-leads_to.ensures c.if-branch.true)))
+    (subst (λ (t : Text). LeadsInText text (choices c.deref-2.result.now) t) c.as_str.ensures.value (c.in_ok-leads_to.ensures.leads c.if-branch.true)))
