@@ -11,3 +11,4 @@ pub mod WordLemmas
 pub mod TokenLemmas
 pub mod JsonLemmas
 pub mod StopLemmas
+pub mod PartLemmas

@@ -14,7 +14,7 @@ use Rattle.jsonptr_comments.proofs.DoneLemmas.{done_kept, done_blank, done_comma
 pub first_byte : (t : List ℕ) (i x : ℕ) → i < length t → get_or t i 0 ≡ x → drop i t ≡ x ∷ drop (i + 1) t
 first_byte t i x l e = drop_more t i 0 l ∙ ap (λ y. y ∷ drop (i + 1) t) e
 
-two_bytes : (t : List ℕ) (i x y : ℕ) → i + 1 < length t → get_or t i 0 ≡ x → get_or t (i + 1) 0 ≡ y → drop i t ≡ x ∷ y ∷ drop (i + 2) t
+pub two_bytes : (t : List ℕ) (i x y : ℕ) → i + 1 < length t → get_or t i 0 ≡ x → get_or t (i + 1) 0 ≡ y → drop i t ≡ x ∷ y ∷ drop (i + 2) t
 two_bytes t i x y l e f =
     let n : i + 1 + 1 ≡ i + 2 = omega arith in
     first_byte t i x (omega arith) e ∙ ap (λ r. x ∷ r) (first_byte t (i + 1) y l f ∙ ap (λ m. y ∷ drop m t) n)

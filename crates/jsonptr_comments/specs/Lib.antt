@@ -1,4 +1,5 @@
 pub mod Comments
+pub mod Parts
 pub mod PrivateScanning
 pub mod PrivateStepping
 pub mod Faults

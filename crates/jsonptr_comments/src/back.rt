@@ -33,7 +33,7 @@ fn solid_end(text: &[u8], at: usize) -> usize
 }
 
 /// Returns whether the byte is white space.
-fn is_space(byte: u8) -> bool
+pub(crate) fn is_space(byte: u8) -> bool
     ensures { result ≡ is_json_space byte }
 {
     matches!(byte, b' ' | b'\t' | b'\n' | b'\r')

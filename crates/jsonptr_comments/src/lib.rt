@@ -9,6 +9,8 @@
 //! assert_eq!(rt; json.as_str(), "{        \n  \"size\": 3          \n}");
 //! ```
 //!
+//! The module [`piece`] cuts a text into strings, comments and other bytes.
+//!
 //! In the examples `rt` is the runtime that `main` and each test receive, and `alloc` is
 //! `rt.alloc()`, the allocator.
 #![tactic(auto)]
@@ -17,6 +19,7 @@ mod back;
 mod comments;
 mod error;
 pub mod laws;
+pub mod piece;
 mod scan;
 mod step;
 

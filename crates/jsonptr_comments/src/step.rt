@@ -141,7 +141,7 @@ fn slash(text: &mut [u8], at: usize) -> Result<usize, CommentError>
 }
 
 /// Returns the byte at the offset, or 0 if the text ends before it.
-fn byte_at(text: &[u8], offset: usize) -> u8
+pub(crate) fn byte_at(text: &[u8], offset: usize) -> u8
     ensures byte { result ≡ slice_index text.now offset }
     ensures within { 0 < result → offset < length text.now }
 {

@@ -1,5 +1,5 @@
 -- What is known of a text with comments after an edit.
-use Rattle.std.proofs.Common.{◌≡◌, List, ap, ◌∙◌, option_and_then}
+use Rattle.std.proofs.Common.{List, ◌∙◌}
 use Rattle.jsonptr.specs.Text.{Text}
 use Rattle.jsonptr.specs.Node.{NodeMap}
 use Rattle.jsonptr_value.specs.declared.from_text.ReadError.{ReadError}

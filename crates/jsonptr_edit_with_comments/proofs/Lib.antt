@@ -1,2 +1,4 @@
 pub mod EditLemmas
+pub mod CheckLemmas
+pub mod KeptLemmas
 pub mod PatchLemmas

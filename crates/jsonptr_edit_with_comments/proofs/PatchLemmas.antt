@@ -1,5 +1,5 @@
 -- What is known of a text with comments after a patch.
-use Rattle.std.proofs.Common.{◌≡◌, List, [], ◌∷◌, ◌++◌, Option, Some, None, String, Result, Ok, Err, IfOk, IfSome, string_bytes, refl, ap, ◌∙◌, subst}
+use Rattle.std.proofs.Common.{◌≡◌, List, [], ◌∷◌, ◌++◌, Option, Some, None, String, Result, Ok, Err, IfOk, IfSome, string_bytes, refl, ◌∙◌, subst}
 use Rattle.std.specs.declared.alloc.AllocError.{AllocError}
 use Rattle.std.specs.declared.alloc.Global.{Global}
 use Rattle.jsonptr.specs.Text.{Text}
@@ -45,7 +45,21 @@ pub plain_edits : ((old new : Text) (rs : List RawOperation) → RawPatchBytes o
 plain_edits law (Err e) text rs os same h = h
 plain_edits law (Ok s) text rs os same h = (h.0, h.1, h.2, h.3, subst (λ (l : List Operation). PatchBytes h.0 l h.1) same (law h.0 h.1 rs h.4))
 
-pub made_in_two : (text left : Text) (r : Made) → IsOneEdit text left → IfOk r (λ m. IfSome m (λ s. IsOneEdit left (string_bytes s))) → IfOk r (λ m. IfSome m (λ s. IsMadeInTwo text (string_bytes s)))
-made_in_two text left (Err e) cut h = h
-made_in_two text left (Ok None) cut h = h
-made_in_two text left (Ok (Some s)) cut h = (left, cut, h)
+pub made_in_two : (text : Text) (from path : List Text) (left : Text) (r : Made) → IsOneEdit text from left → IfOk r (λ m. IfSome m (λ s. IsOneEdit left path (string_bytes s)))
+    → IfOk r (λ m. IfSome m (λ s. IsMadeInTwo text from path (string_bytes s)))
+made_in_two text from path left (Err e) cut h = h
+made_in_two text from path left (Ok None) cut h = h
+made_in_two text from path left (Ok (Some s)) cut h = (left, cut, h)
+
+-- the same text and the same tokens by other names
+pub edited_at : (text old : Text) (path ts : List Text) (r : Made) → old ≡ text → ts ≡ path → IfOk r (λ m. IfSome m (λ s. IsOneEdit old ts (string_bytes s))) → IfOk r (λ m. IfSome m (λ s. IsOneEdit text path (string_bytes s)))
+edited_at text old path ts r e f h =
+    subst (λ (t : Text). IfOk r (λ m. IfSome m (λ s. IsOneEdit t path (string_bytes s)))) e
+    (subst (λ (x : List Text). IfOk r (λ m. IfSome m (λ s. IsOneEdit old x (string_bytes s)))) f h)
+
+pub moved_at : (text old : Text) (from path fs ts : List Text) (r : Made) → old ≡ text → fs ≡ from → ts ≡ path → IfOk r (λ m. IfSome m (λ s. IsMadeInTwo old fs ts (string_bytes s)))
+    → IfOk r (λ m. IfSome m (λ s. IsMadeInTwo text from path (string_bytes s)))
+moved_at text old from path fs ts r e f g h =
+    subst (λ (t : Text). IfOk r (λ m. IfSome m (λ s. IsMadeInTwo t from path (string_bytes s)))) e
+    (subst (λ (x : List Text). IfOk r (λ m. IfSome m (λ s. IsMadeInTwo old x path (string_bytes s)))) f
+    (subst (λ (x : List Text). IfOk r (λ m. IfSome m (λ s. IsMadeInTwo old fs x (string_bytes s)))) g h))

@@ -1,3 +1,5 @@
 pub mod EditWithComments
 pub mod Edits
+pub mod Kept
 pub mod Patches
+pub mod PrivateChecking

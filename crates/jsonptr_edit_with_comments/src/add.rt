@@ -1,7 +1,7 @@
 //! Where a new child comes in a text with comments. These are hints: no contract says that they are
 //! right.
 
-use crate::change::{Change, Comma};
+use crate::change::{Change, Comma, Kind};
 use crate::effect::{Family, Texts};
 use crate::gap::gap_of;
 use jsonptr_json_edits::layout::slice;
@@ -274,11 +274,7 @@ fn put(alloc: Global, location: Location, parts: &[&str]) -> Result<Change, Allo
     Ok(Change {
         comma: location.comma,
         replaced: location.replaced,
+        kind: Kind::Space,
         piece,
-        child: Extent {
-            child: location.replaced,
-            value: location.replaced.from,
-        },
-        key: None,
     })
 }

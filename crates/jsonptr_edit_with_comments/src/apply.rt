@@ -30,7 +30,7 @@ use std::alloc::{AllocError, Global};
 /// | `move` | all stay: a value with a comment in it, or beside it on its line, is not moved |
 /// | `test` | all stay |
 ///
-/// Each operation reads the text some six times.
+/// Each operation reads the text some ten times.
 ///
 /// # Errors
 ///

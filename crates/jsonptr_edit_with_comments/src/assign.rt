@@ -30,8 +30,9 @@ use std::alloc::Global;
 /// A list over lines with a trailing comma has one after the edit, and others have none. An empty
 /// container keeps its comments, and the new child comes after them.
 ///
-/// Reads the text with comments, the result, and both without comments, beside what [`assign_in_place`]
-/// reads.
+/// Reads the text with comments and the result twice, and both without comments, beside what
+/// [`assign_in_place`] reads. Where a value is replaced, also finds it, as
+/// [`locate_in_text`](jsonptr_edit_in_text::locate_in_text) does.
 ///
 /// # Errors
 ///
@@ -64,7 +65,7 @@ pub fn assign_with_comments(
         (λ old new. AssignsInText old (tokens pointer.entry) (nodes (view value)) new) text.now (string_bytes s)) }
     ensures bytes { IfOk result (λ s. EditsAs
         (λ old new. AssignsBytes old (tokens pointer.entry) (view value) new) text.now (string_bytes s)) }
-    ensures pieces { IfOk result (λ s. IsOneEdit text.now (string_bytes s)) }
+    ensures pieces { IfOk result (λ s. IsOneEdit text.now (tokens pointer.entry) (string_bytes s)) }
     ensures refused { IfErr result (IsWithCommentsError
         (λ old new. AssignsInText old (tokens pointer.entry) (nodes (view value)) new)
         (λ old e. IsAssignError old (tokens pointer.entry) (view value) e) text.now) }
@@ -112,7 +113,7 @@ pub fn assign_raw_with_comments(
     ensures bytes { IfOk result (λ s. EditsAs
         (λ old new. AssignsBytes old (tokens pointer.entry) (value_of_raw raw.now) new
         × AssignsGiven old (tokens pointer.entry) raw.now new) text.now (string_bytes s)) }
-    ensures pieces { IfOk result (λ s. IsOneEdit text.now (string_bytes s)) }
+    ensures pieces { IfOk result (λ s. IsOneEdit text.now (tokens pointer.entry) (string_bytes s)) }
     ensures refused { IfErr result (IsWithCommentsError
         (λ old new. AssignsInText old (tokens pointer.entry) (nodes (value_of_raw raw.now)) new)
         (λ old e. IsAssignError old (tokens pointer.entry) (value_of_raw raw.now) e) text.now) }

@@ -1,13 +1,17 @@
 //! A change of a text: one piece is replaced, and a comma may come or go before it.
-ghost use Rattle.std.specs.Prelude.{◌≡◌, ◌⊎◌, ◌++◌, [], IfOk, IfSome, IsTrue, codes, string_bytes};
-ghost use Rattle.jsonptr_edit_with_comments.specs.Edits.{IsSmall, IsCommaOrNone, IsOneEdit};
+ghost use Rattle.std.specs.Prelude.{IfOk, IfSome, IsTrue, string_bytes};
+ghost use Rattle.jsonptr.specs.Pointer.{tokens};
+ghost use Rattle.jsonptr_comments.specs.Comments.{IsWithoutComments};
+ghost use Rattle.jsonptr_edit_with_comments.specs.Edits.{IsOneEdit};
+ghost use Rattle.jsonptr_edit_with_comments.specs.PrivateChecking.{IsChanged};
 
-use jsonptr::Fault;
-use jsonptr_comments::without_comments;
+use crate::child::{Child, is_removal};
+use crate::draft::{Draft, is_addition, is_framed};
+use crate::effect::Texts;
+use crate::value::is_replacement;
+use jsonptr::Pointer;
 use jsonptr_json_edits::buffers::Buffers;
-use jsonptr_json_edits::child::is_one_child;
-use jsonptr_json_edits::locate::{Extent, Span};
-use jsonptr_json_edits::spacing::is_blank;
+use jsonptr_json_edits::locate::Span;
 use std::alloc::{AllocError, Global};
 
 /// A comma that comes or goes. The offset is one of the text before the change.
@@ -21,32 +25,32 @@ pub enum Comma {
     Taken(usize),
 }
 
+/// What is replaced in a text.
+#[derive(Debug, Drop)]
+pub enum Kind {
+    /// White space.
+    Space,
+    /// A value, to which as many tokens of the pointer lead.
+    Value(usize),
+    /// A child, which is removed, and what is beside it.
+    Child(Child),
+}
+
 /// A change of a text.
 #[derive(Debug, Drop)]
 pub struct Change {
     /// A comma that comes or goes before the piece.
     pub comma: Comma,
-    /// What is replaced: white space, or one value or child with what is beside it.
+    /// Where what is replaced is in the text.
     pub replaced: Span,
+    /// What it is.
+    pub kind: Kind,
     /// What replaces it.
     pub piece: String,
-    /// Where that value or child is in the text.
-    pub child: Extent,
-    /// Its key, if it is a member that is removed.
-    pub key: Option<String>,
 }
 
-/// A text that is cut at four offsets. It borrows the text.
-#[derive(Clone, Copy, Debug)]
-struct Cuts<'t> {
-    before: &'t str,
-    comma: &'t str,
-    between: &'t str,
-    middle: &'t str,
-    after: &'t str,
-}
-
-/// Returns the text after the change, or `None` if its offsets do not fit the text.
+/// Returns the text after the change, or `None` if its offsets do not fit the text, or if it is not an edit at
+/// the pointer.
 ///
 /// # Errors
 ///
@@ -54,36 +58,101 @@ struct Cuts<'t> {
 pub fn changed(
     alloc: Global,
     buffers: &mut Buffers,
-    text: &str,
+    texts: Texts<'_>,
+    pointer: Pointer<'_>,
     change: &Change,
 ) -> Result<Option<String>, AllocError>
-    ensures { IfOk result (λ made. IfSome made (λ s. IsOneEdit text.now (string_bytes s))) }
+    requires { IsWithoutComments texts.text.now texts.old.now }
+    ensures { IfOk result (λ made. IfSome made
+        (λ s. IsOneEdit texts.entry.text.now (tokens pointer.entry) (string_bytes s))) }
 {
     let (comma, added) = span_of(change.comma, change.replaced.from);
+    let Some(made) = joined(alloc, texts.text, comma, added, change)? else {
+        return Ok(None);
+    };
+    let start = change
+        .replaced
+        .from
+        .saturating_add(added.len())
+        .saturating_sub(comma.to.saturating_sub(comma.from));
+    let draft = Draft {
+        text: texts.text,
+        bare: texts.old,
+        made: made.as_str(),
+        pointer,
+        comma,
+        added: Span {
+            from: comma.from,
+            to: comma.from.saturating_add(added.len()),
+        },
+        replaced: change.replaced,
+        new: Span {
+            from: start,
+            to: start.saturating_add(change.piece.len()),
+        },
+    };
+    if !is_framed(&draft) {
+        return Ok(None);
+    }
+    if is_made(alloc, buffers, &draft, &change.kind)? {
+        Ok(Some(made))
+    } else {
+        Ok(None)
+    }
+}
+
+/// Returns whether what is replaced is of that kind, and what replaces it loses no other comment.
+///
+/// # Errors
+///
+/// [`AllocError`] if an allocation fails.
+fn is_made(
+    alloc: Global,
+    buffers: &mut Buffers,
+    draft: &Draft<'_>,
+    kind: &Kind,
+) -> Result<bool, AllocError>
+    ensures { IfOk result (λ b. IsTrue b → IsChanged draft.now.bare.now (tokens draft.now.pointer)
+        draft.now.text.now draft.now.replaced.from draft.now.replaced.to
+        draft.now.made.now draft.now.new.from draft.now.new.to) }
+{
+    match kind {
+        Kind::Space => Ok(is_addition(draft)),
+        Kind::Value(depth) => is_replacement(alloc, buffers, draft, *depth),
+        Kind::Child(child) => is_removal(alloc, buffers, draft, child),
+    }
+}
+
+/// Returns the text with the change, or `None` if its offsets do not fit the text.
+///
+/// # Errors
+///
+/// [`AllocError`] if an allocation fails.
+fn joined(
+    alloc: Global,
+    text: &str,
+    comma: Span,
+    added: &str,
+    change: &Change,
+) -> Result<Option<String>, AllocError> {
     let Some(cuts) = cuts_of(text, comma, change.replaced) else {
         return Ok(None);
     };
-    if !is_comma_or_none(cuts.comma) || !is_comma_or_none(added) {
-        return Ok(None);
-    }
-    if !is_small(alloc, buffers, cuts.middle, change)? {
-        return Ok(None);
-    }
-    Ok(Some(joined(alloc, &cuts, added, change.piece.as_str())?))
-}
-
-/// Returns the text with these two texts instead of the comma and of what is replaced.
-fn joined(alloc: Global, cuts: &Cuts<'_>, added: &str, piece: &str) -> Result<String, AllocError>
-    ensures { IfOk result (λ made. string_bytes made ≡ cuts.now.before.now
-        ++ (added.now ++ (cuts.now.between.now ++ (piece.now ++ cuts.now.after.now)))) }
-{
     let mut made = String::new(alloc);
     made.push_str(cuts.before)?;
     made.push_str(added)?;
     made.push_str(cuts.between)?;
-    made.push_str(piece)?;
+    made.push_str(change.piece.as_str())?;
     made.push_str(cuts.after)?;
-    Ok(made)
+    Ok(Some(made))
+}
+
+/// A text that is cut at four offsets, without what is replaced. It borrows the text.
+#[derive(Clone, Copy, Debug)]
+struct Cuts<'t> {
+    before: &'t str,
+    between: &'t str,
+    after: &'t str,
 }
 
 /// Returns where the comma is that is taken out, and the one that is put in there. If there is neither,
@@ -99,54 +168,14 @@ fn span_of(comma: Comma, offset: usize) -> (Span, &'static str) {
 
 /// Cuts the text at the ends of both spans. Returns `None` if these are not in order, or not between
 /// characters.
-fn cuts_of(text: &str, comma: Span, replaced: Span) -> Option<Cuts<'_>>
-    ensures { IfSome result (λ c. text.now ≡ c.before.now ++ (c.comma.now ++ (c.between.now ++ (c.middle.now ++ c.after.now)))) }
-{
+fn cuts_of(text: &str, comma: Span, replaced: Span) -> Option<Cuts<'_>> {
     let (before, rest) = text.split_at_checked(comma.from)?;
-    let (comma_text, rest) = rest.split_at_checked(comma.to.checked_sub(comma.from)?)?;
+    let (_, rest) = rest.split_at_checked(comma.to.checked_sub(comma.from)?)?;
     let (between, rest) = rest.split_at_checked(replaced.from.checked_sub(comma.to)?)?;
-    let (middle, after) = rest.split_at_checked(replaced.to.checked_sub(replaced.from)?)?;
+    let (_, after) = rest.split_at_checked(replaced.to.checked_sub(replaced.from)?)?;
     Some(Cuts {
         before,
-        comma: comma_text,
         between,
-        middle,
         after,
     })
-}
-
-/// Returns whether the text is a comma or empty.
-fn is_comma_or_none(text: &str) -> bool
-    ensures { IsTrue result → IsCommaOrNone text.now }
-{
-    text.is_empty() || text == ","
-}
-
-/// Returns whether what is replaced is white space, or one value or child with what is beside it.
-fn is_small(
-    alloc: Global,
-    buffers: &mut Buffers,
-    middle: &str,
-    change: &Change,
-) -> Result<bool, AllocError>
-    ensures { IfOk result (λ b. IsTrue b → IsSmall middle.now) }
-{
-    if is_blank(middle) {
-        return Ok(true);
-    }
-    let child = Extent {
-        child: Span {
-            from: change.child.child.from.saturating_sub(change.replaced.from),
-            to: change.child.child.to.saturating_sub(change.replaced.from),
-        },
-        value: change.child.value.saturating_sub(change.replaced.from),
-    };
-    match without_comments(alloc, middle) {
-        Ok(json) => match &change.key {
-            Some(key) => is_one_child(buffers, json.as_str(), child, Some(key.as_str()), None),
-            None => is_one_child(buffers, json.as_str(), child, None, None),
-        },
-        Err(Fault::Refused(_)) => Ok(false),
-        Err(Fault::Memory(error)) => Err(error),
-    }
 }

@@ -50,7 +50,8 @@ pub fn delete_with_comments(
         (λ s. Becomes (λ old new. DeletesInText old (tokens pointer.entry) new) text.now (string_bytes s))) }
     ensures bytes { IfOk result (λ o. IfSome o (λ s. EditsAs
         (λ old new. DeletesBytes old (tokens pointer.entry) new) text.now (string_bytes s))) }
-    ensures pieces { IfOk result (λ o. IfSome o (λ s. IsOneEdit text.now (string_bytes s))) }
+    ensures pieces { IfOk result (λ o. IfSome o
+        (λ s. IsOneEdit text.now (tokens pointer.entry) (string_bytes s))) }
     ensures refused { IfErr result (IsDeleteError text.now (tokens pointer.entry)) }
 {
     let bare = read_past(alloc, text)?;

@@ -57,8 +57,8 @@ impl Family {
 /// What an edit changes.
 #[derive(Debug, Drop)]
 pub enum Effect {
-    /// The value at the span is replaced.
-    Replaced(Span),
+    /// The value at the span is replaced. As many tokens of the pointer lead to it.
+    Replaced(Span, usize),
     /// A child is added, which has this position.
     Added(Family, usize),
     /// The child at the position is removed. A member has this key.
@@ -74,6 +74,8 @@ struct Last {
     container: Span,
     /// Its position among all children.
     position: usize,
+    /// How many tokens lead to it.
+    depth: usize,
     /// How many children the token selects.
     count: usize,
     /// The token, decoded.
@@ -96,31 +98,34 @@ pub fn effect_of(
         return Ok(None);
     };
     if place.depth < selectors.len() {
-        return effect_at_missing(alloc, buffers, texts, place.value);
+        return effect_at_missing(alloc, buffers, texts, place.value, place.depth);
     }
     let Some(selector) = selectors.pop() else {
-        return Ok(Some(Effect::Replaced(place.value)));
+        return Ok(Some(Effect::Replaced(place.value, 0)));
     };
     let last = Last {
         value: place.value,
         container: place.container,
         position: place.positions.last().copied().unwrap_or(0),
+        depth: place.depth,
         count: place.duplicates.len(),
         key: selector.key,
     };
     effect_at_child(alloc, buffers, texts, last)
 }
 
-/// Returns what the edit changes at a pointer that leads no further than to the value at the span.
+/// Returns what the edit changes at a pointer of which `depth` tokens lead to the value at the span, and the
+/// others no further.
 fn effect_at_missing(
     alloc: Global,
     buffers: &mut Buffers,
     texts: Texts<'_>,
     span: Span,
+    depth: usize,
 ) -> Result<Option<Effect>, AllocError> {
     let text_there = slice(texts.old, span.from, span.to);
     if !text_there.starts_with('{') && !text_there.starts_with('[') {
-        return Ok(Some(Effect::Replaced(span)));
+        return Ok(Some(Effect::Replaced(span, depth)));
     }
     let Some(family) = family_of(alloc, buffers, texts, span)? else {
         return Ok(None);
@@ -141,7 +146,7 @@ fn effect_at_child(
     };
     let (old, new) = (family.old.len(), family.new.len());
     if new == old {
-        return Ok(Some(Effect::Replaced(last.value)));
+        return Ok(Some(Effect::Replaced(last.value, last.depth)));
     }
     if new > old {
         return Ok(Some(Effect::Added(family, last.position)));

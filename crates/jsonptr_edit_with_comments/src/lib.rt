@@ -13,10 +13,11 @@
 //! - [`apply_with_comments`] applies a patch (RFC 6902).
 //! - [`assign_raw_with_comments`] and [`apply_raw_with_comments`] bring values with their own texts.
 //!
-//! Each call makes two promises. *Meaning*: without its comments, the new text reads as the document
+//! Each call makes three promises. *Meaning*: without its comments, the new text reads as the document
 //! that the call on documents makes. *Tokens*: without its comments, it has the tokens that the edit of
-//! the text without comments makes, one for one. Which piece is replaced, and that all comments stay
-//! except those in a value that is replaced or removed and beside one that is removed, is tested.
+//! the text without comments makes, one for one. *Comments*: all stay, in their order, except those in
+//! the value that is replaced or in the child that is removed, and those that follow this child on its
+//! line ([`comments_law`](laws::comments_law)).
 //!
 //! In the examples `rt` is the runtime that `main` and each test receive, and `alloc` is
 //! `rt.alloc()`, the allocator.
@@ -26,14 +27,19 @@ mod add;
 mod apply;
 mod assign;
 mod change;
+mod child;
 mod delete;
+mod draft;
 mod effect;
 mod error;
 mod gap;
+pub mod laws;
 mod operate;
+mod part;
 mod put;
 mod remove;
 mod same;
+mod value;
 
 pub use apply::{apply_raw_with_comments, apply_with_comments, try_apply_raw_with_comments};
 pub use assign::{assign_raw_with_comments, assign_with_comments};

@@ -1,17 +1,17 @@
 //! One operation of a patch in a text with comments (RFC 6902, section 4).
 ghost use Rattle.std.specs.Prelude.{IfOk, IfSome, string_bytes};
 ghost use Rattle.std.specs.Cow.{cow_str_bytes};
+ghost use Rattle.jsonptr.specs.Pointer.{tokens};
 ghost use Rattle.jsonptr_comments.specs.Comments.{IsWithoutComments};
 ghost use Rattle.jsonptr_edit_with_comments.specs.Edits.{IsOneEdit};
 ghost use Rattle.jsonptr_edit_with_comments.specs.Patches.{OperationEdits, IsMadeInTwo};
 
 use crate::effect::Texts;
 use crate::put::put_edit;
+use crate::value::find_value;
 use jsonptr::{Fault, Pointer};
 use jsonptr_comments::without_comments;
-use jsonptr_edit_in_text::{
-    LocateError, Located, RawOperation, RawValue, locate_in_text_with, try_apply_raw_in_place,
-};
+use jsonptr_edit_in_text::{Located, RawOperation, RawValue, try_apply_raw_in_place};
 use jsonptr_in_text::{Format, Scratch, format_text};
 use jsonptr_json_edits::buffers::Buffers;
 use jsonptr_patch::Operation;
@@ -65,7 +65,8 @@ fn edit(
     operation: &RawOperation,
     pointer: Pointer<'_>,
 ) -> Result<Option<String>, AllocError>
-    ensures { IfOk result (λ made. IfSome made (λ s. IsOneEdit text.now (string_bytes s))) }
+    ensures { IfOk result (λ made. IfSome made
+        (λ s. IsOneEdit text.now (tokens pointer.entry) (string_bytes s))) }
 {
     let Some(bare) = bare(alloc, text)? else {
         return Ok(None);
@@ -106,7 +107,8 @@ fn copy_value(
     from: Pointer<'_>,
     path: Pointer<'_>,
 ) -> Result<Option<String>, AllocError>
-    ensures { IfOk result (λ made. IfSome made (λ s. IsOneEdit text.now (string_bytes s))) }
+    ensures { IfOk result (λ made. IfSome made
+        (λ s. IsOneEdit text.now (tokens path.entry) (string_bytes s))) }
 {
     let Some(add) = addition_of(alloc, buffers, text, from, path)? else {
         return Ok(None);
@@ -123,7 +125,8 @@ fn move_value(
     from: Pointer<'_>,
     path: Pointer<'_>,
 ) -> Result<Option<String>, AllocError>
-    ensures { IfOk result (λ made. IfSome made (λ s. IsMadeInTwo text.now (string_bytes s))) }
+    ensures { IfOk result (λ made. IfSome made
+        (λ s. IsMadeInTwo text.now (tokens from.entry) (tokens path.entry) (string_bytes s))) }
 {
     let Some(add) = addition_of(alloc, buffers, text, from, path)? else {
         return Ok(None);
@@ -141,7 +144,8 @@ fn removed(
     text: &str,
     pointer: Pointer<'_>,
 ) -> Result<Option<String>, AllocError>
-    ensures { IfOk result (λ made. IfSome made (λ s. IsOneEdit text.now (string_bytes s))) }
+    ensures { IfOk result (λ made. IfSome made
+        (λ s. IsOneEdit text.now (tokens pointer.entry) (string_bytes s))) }
 {
     let path = pointer.to_buf(alloc)?;
     let remove = RawOperation::new(Operation::Remove { path });
@@ -174,10 +178,8 @@ fn addition_of(
     let Some(bare) = bare(alloc, text)? else {
         return Ok(None);
     };
-    let located = match locate_in_text_with(alloc, buffers, bare.as_str(), from) {
-        Ok(located) => located,
-        Err(LocateError::Memory(error)) => return Err(error),
-        Err(_error) => return Ok(None),
+    let Some(located) = find_value(alloc, buffers, bare.as_str(), from)? else {
+        return Ok(None);
     };
     let Some(raw) = if_json(own_value(alloc, text, located))? else {
         return Ok(None);

@@ -1,16 +1,19 @@
 //! An edit of a text without comments, put into the text with them.
 ghost use Rattle.std.specs.Prelude.{IfOk, IfSome, string_bytes};
+ghost use Rattle.jsonptr.specs.Pointer.{tokens};
+ghost use Rattle.jsonptr_comments.specs.Comments.{IsWithoutComments};
 ghost use Rattle.jsonptr_edit_with_comments.specs.Edits.{IsLaidOut, IsOneEdit};
 
 use crate::add::addition;
-use crate::change::{Change, Comma, changed};
+use crate::change::{Change, Comma, Kind, changed};
+use crate::child::Child;
 use crate::effect::{Effect, Family, Texts, effect_of};
 use crate::remove::removal;
 use crate::same::is_laid_out;
 use jsonptr::Pointer;
 use jsonptr_json_edits::buffers::Buffers;
 use jsonptr_json_edits::layout::slice;
-use jsonptr_json_edits::locate::{Extent, Span};
+use jsonptr_json_edits::locate::Span;
 use std::alloc::{AllocError, Global};
 
 /// Returns the text with comments after the edit at the pointer, or `None` if what it changes is not found.
@@ -24,10 +27,11 @@ pub fn put_edit(
     texts: Texts<'_>,
     pointer: Pointer<'_>,
 ) -> Result<Option<String>, AllocError>
+    requires { IsWithoutComments texts.text.now texts.old.now }
     ensures laid_out { IfOk result
         (λ made. IfSome made (λ s. IsLaidOut texts.entry.new.now (string_bytes s))) }
-    ensures pieces { IfOk result
-        (λ made. IfSome made (λ s. IsOneEdit texts.entry.text.now (string_bytes s))) }
+    ensures pieces { IfOk result (λ made. IfSome made
+        (λ s. IsOneEdit texts.entry.text.now (tokens pointer.entry) (string_bytes s))) }
 {
     let Some(effect) = effect_of(alloc, buffers, texts, pointer)? else {
         return Ok(None);
@@ -35,7 +39,7 @@ pub fn put_edit(
     let Some(change) = change_of(alloc, texts, effect)? else {
         return Ok(None);
     };
-    let Some(made) = changed(alloc, buffers, texts.text, &change)? else {
+    let Some(made) = changed(alloc, buffers, texts, pointer, &change)? else {
         return Ok(None);
     };
     if is_laid_out(alloc, buffers, texts.new, made.as_str())? {
@@ -52,24 +56,25 @@ fn change_of(
     effect: Effect,
 ) -> Result<Option<Change>, AllocError> {
     match effect {
-        Effect::Replaced(span) => Ok(Some(replacement(alloc, texts, span)?)),
+        Effect::Replaced(span, depth) => Ok(Some(replacement(alloc, texts, span, depth)?)),
         Effect::Added(family, position) => addition(alloc, texts, &family, position),
         Effect::Removed(family, position, key) => removed(alloc, texts, &family, position, key),
     }
 }
 
-/// Returns the change that replaces the value at the span.
-fn replacement(alloc: Global, texts: Texts<'_>, span: Span) -> Result<Change, AllocError> {
+/// Returns the change that replaces the value at the span, to which as many tokens lead.
+fn replacement(
+    alloc: Global,
+    texts: Texts<'_>,
+    span: Span,
+    depth: usize,
+) -> Result<Change, AllocError> {
     let new = texts.moved(span);
     Ok(Change {
         comma: Comma::Same,
         replaced: span,
+        kind: Kind::Value(depth),
         piece: String::from_str(alloc, slice(texts.new, new.from, new.to))?,
-        child: Extent {
-            child: span,
-            value: span.from,
-        },
-        key: None,
     })
 }
 
@@ -91,8 +96,11 @@ fn removed(
     Ok(Some(Change {
         comma: removal.comma,
         replaced: removal.span,
+        kind: Kind::Child(Child {
+            extent: *child,
+            key: if is_object { Some(key) } else { None },
+            kept: removal.kept,
+        }),
         piece: String::from_str(alloc, slice(texts.text, removal.kept.from, removal.kept.to))?,
-        child: *child,
-        key: if is_object { Some(key) } else { None },
     }))
 }

@@ -34,7 +34,8 @@ pub struct Removed {
     pub comma: Comma,
     /// The child, and what goes with it.
     pub span: Span,
-    /// What stays of that: comments between the line of the child and a comma after it.
+    /// What stays of that: comments between the line of the child and a comma after it. Those between the child
+    /// and this go.
     pub kept: Span,
 }
 
@@ -61,25 +62,9 @@ pub fn removal(texts: Texts<'_>, family: &Family, position: usize) -> Option<Rem
             span: family.container,
             children: family.old.as_slice(),
         };
-        return alone(layout::removal(container, position)?);
+        return around.alone(layout::removal(container, position)?);
     }
     around.removal()
-}
-
-/// Returns the removal of the span, without a comma elsewhere.
-fn alone(span: Span) -> Option<Removed> {
-    Some(Removed::whole(Comma::Same, span))
-}
-
-impl Removed {
-    /// Returns the removal of the whole span, and of the comma.
-    fn whole(comma: Comma, span: Span) -> Removed {
-        let kept = Span {
-            from: span.to,
-            to: span.to,
-        };
-        Removed { comma, span, kept }
-    }
 }
 
 impl<'t> Around<'t> {
@@ -89,10 +74,23 @@ impl<'t> Around<'t> {
         self.before.comments_end.is_none() && self.after.comments_end.is_none() && !is_trailing
     }
 
+    /// Returns the removal of the span, without a comma elsewhere.
+    fn alone(&self, span: Span) -> Option<Removed> {
+        Some(self.whole(Comma::Same, span))
+    }
+
+    /// Returns the removal of the whole span, and of the comma. The comments on the line of the child, after it,
+    /// go with it.
+    fn whole(&self, comma: Comma, span: Span) -> Removed {
+        let end = self.after.tail.min(span.to);
+        let kept = Span { from: end, to: end };
+        Removed { comma, span, kept }
+    }
+
     /// Returns what is removed.
     fn removal(&self) -> Option<Removed> {
         if self.is_first && self.is_last && self.owns_all() {
-            return alone(self.all);
+            return self.alone(self.all);
         }
         if let Some(comma) = self.later_comma() {
             return self.before_later_comma(comma);
@@ -102,7 +100,7 @@ impl<'t> Around<'t> {
                 return self.line(start);
             }
             if let Some(comma) = self.last_comma() {
-                return alone(self.line_from(self.comma_start(comma)));
+                return self.alone(self.line_from(self.comma_start(comma)));
             }
         }
         if self.is_last {
@@ -131,12 +129,12 @@ impl<'t> Around<'t> {
             return self.first_before(comma);
         }
         if let Some(before) = self.comma_beside() {
-            return alone(self.line_from(self.comma_start(before)));
+            return self.alone(self.line_from(self.comma_start(before)));
         }
         let taken = Comma::Taken(self.before.comma?);
         let start = self.line_start(self.child.from);
         let from = start.unwrap_or(self.space_start());
-        Some(Removed::whole(taken, self.line_from(from)))
+        Some(self.whole(taken, self.line_from(from)))
     }
 
     /// Returns the removal of the first child, and of the comma at the offset, which is on a later line.
@@ -150,7 +148,7 @@ impl<'t> Around<'t> {
             to: comma,
         };
         if slice(self.text, kept.from, kept.to).trim().is_empty() {
-            return alone(span);
+            return self.alone(span);
         }
         let start = self.line_start(self.child.from);
         let span = Span {
@@ -221,9 +219,9 @@ impl<'t> Around<'t> {
     fn line(&self, start: usize) -> Option<Removed> {
         let span = self.line_from(start);
         if !self.is_last || self.is_first || self.after.comma.is_some() {
-            return alone(span);
+            return self.alone(span);
         }
-        Some(Removed::whole(Comma::Taken(self.before.comma?), span))
+        Some(self.whole(Comma::Taken(self.before.comma?), span))
     }
 
     /// Returns the removal of the last child, which shares a line with others.
@@ -231,23 +229,23 @@ impl<'t> Around<'t> {
         let to = self.after.tail;
         let from = self.space_start();
         if self.is_first || self.after.comma.is_some() {
-            return alone(Span { from, to });
+            return self.alone(Span { from, to });
         }
         if self.before.comments_end.is_none() {
             let from = self.all.from;
-            return alone(Span { from, to });
+            return self.alone(Span { from, to });
         }
         let comma = Comma::Taken(self.before.comma?);
-        Some(Removed::whole(comma, Span { from, to }))
+        Some(self.whole(comma, Span { from, to }))
     }
 
     /// Returns the removal of a child that is not the last one, and shares a line with others.
     fn not_last(&self) -> Option<Removed> {
         let comma = self.after.comma?;
         if self.after.ends_line {
-            return alone(self.line_from(self.space_start()));
+            return self.alone(self.line_from(self.space_start()));
         }
-        alone(Span {
+        self.alone(Span {
             from: self.child.from,
             to: self.next_after(comma),
         })

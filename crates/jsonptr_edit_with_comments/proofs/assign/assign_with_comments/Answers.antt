@@ -19,3 +19,6 @@ pub returns-clause-refused : goal.returns-clause-refused
 returns-clause-refused c =
     let w = subst (λ (t : Text). IsWithoutComments c.args.text.now t) (sym c.as_str-old.ensures.value) c.in_ok-bare.ensures.without in
     (c.as_str-old.result.now, _, w, c.in_ok-new.ensures.assigned)
+
+pub put_edit-requires : goal.put_edit-requires
+put_edit-requires c = subst (λ (t : Text). IsWithoutComments c.args.text.now t) (sym c.as_str-old.ensures.value) c.in_ok-bare.ensures.without

@@ -1,18 +1,11 @@
-use Rattle.std.proofs.Common.{rules}
+use Rattle.std.proofs.Common.{subst}
+use Rattle.jsonptr.specs.Text.{Text}
+use Rattle.jsonptr.specs.Pointer.{tokens}
+use Rattle.jsonptr_edit_with_comments.specs.Edits.{IsOneEdit}
+use Rattle.jsonptr_edit_with_comments.proofs.CheckLemmas.{one_edit}
 use Rattle.jsonptr_edit_with_comments.proofs.change.changed.Goals as goal
 
-pub returns : goal.returns
-returns c = record {
-  before = c.in-Some.cuts.before.now;
-  comma = c.in-Some.cuts.comma.now;
-  added = c.span_of.result.1.now;
-  between = c.in-Some.cuts.between.now;
-  middle = c.in-Some.cuts.middle.now;
-  piece = c.as_str.result.now;
-  after = c.in-Some.cuts.after.now;
-  text_is = search rules;
-  made_is = search rules;
-  taken = search rules;
-  put = search rules;
-  small = search rules;
-}
+pub returns-then-branch : goal.returns-then-branch
+returns-then-branch c =
+    subst (λ (t : Text). IsOneEdit c.args.texts.text.now (tokens c.args.pointer) t) c.as_str.ensures.value
+    (one_edit _ _ _ _ _ _ _ _ c.requires (c.is_framed.ensures c.if-not-is_framed.false) (c.in_ok-is_made.ensures c.if-branch.true))

@@ -11,3 +11,6 @@ returns-in_err-new-clause-refused c =
     let w = subst (λ (t : Text). IsWithoutComments c.args.text.now t) (sym c.as_str-old.ensures.value) c.in_ok-bare.ensures.without in
     let p = err_from_is_err_and c.from_residual-in_err-new.result c.from_residual-in_err-new.ensures.1 in
     rw (p.1, p.2) (not_deleted _ c.args.text.now c.as_str-old.result.now (tokens c.args.pointer) _ w c.in_err-new.ensures.refused)
+
+pub put_edit-requires : goal.put_edit-requires
+put_edit-requires c = subst (λ (t : Text). IsWithoutComments c.args.text.now t) (sym c.as_str-old.ensures.value) c.in_ok-bare.ensures.without

@@ -1,0 +1,9 @@
+use Rattle.jsonptr_edit_with_comments.proofs.KeptLemmas.{comments_before, comments_after, patch_keeps}
+use Rattle.jsonptr_edit_with_comments.proofs.laws.comments_law.Goals as goal
+
+pub returns : goal.returns
+returns c = record {
+  before = comments_before;
+  after = comments_after;
+  patch = patch_keeps;
+}
