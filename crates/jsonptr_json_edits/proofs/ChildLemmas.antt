@@ -130,7 +130,7 @@ appends_item i ds e len =
 -- ---- members
 
 -- the other keys have equal values after the same member was put into both
-others_put : (k name l : List ℕ) (d : Data) (ms ms2 : Members) → get_member l ms2 ≡ get_member l ms → get_member l (put name d ms2) ≡ get_member l (put name d ms)
+pub others_put : (k name l : List ℕ) (d : Data) (ms ms2 : Members) → get_member l ms2 ≡ get_member l ms → get_member l (put name d ms2) ≡ get_member l (put name d ms)
 others_put k name l d ms ms2 h = at (bytes_eq l name) refl
   where
     at : (b : Bool) → bytes_eq l name ≡ b → get_member l (put name d ms2) ≡ get_member l (put name d ms)
@@ -141,7 +141,7 @@ others_put k name l d ms ms2 h = at (bytes_eq l name) refl
         let other : l ≡ name → ⊥ = λ s. true≢false (sym ((bytes_eq-Decides l name).1 s) ∙ e) in
         get_member-put_other l name d ms2 other ∙ h ∙ sym (get_member-put_other l name d ms other)
 
-not_named : (named : Bool) (name k : List ℕ) → (IsTrue named ↔ (name ≡ k)) → named ≡ false → k ≡ name → ⊥
+pub not_named : (named : Bool) (name k : List ℕ) → (IsTrue named ↔ (name ≡ k)) → named ≡ false → k ≡ name → ⊥
 not_named named name k iff off e = true≢false (sym (iff.1 (sym e)) ∙ off)
 
 pub one_member : (done wanted named : Bool) (k name : List ℕ) (cs : List Choice) (edit : Edit) (ms ms2 : Members) (d d2 : Data) → MembersSo done k (ChangesAt cs (Makes edit)) ms ms2 → ChangesIf wanted cs edit d d2 → (IsTrue named ↔ (name ≡ k)) → MayFollow done wanted named

@@ -3,5 +3,6 @@ pub mod AlikeLemmas
 pub mod ChildLemmas
 pub mod ChildTextLemmas
 pub mod LeadingLemmas
+pub mod RenamingLemmas
 pub mod SideLemmas
 mod PieceLaws

@@ -5,7 +5,7 @@ use Rattle.serde_json.specs.Find.{get_member, get_item}
 use Rattle.serde_json.specs.Read.{read}
 use Rattle.jsonptr_json_search.specs.Search.{Choice, choice_of, items_count}
 use Rattle.jsonptr_json_edits.specs.declared.edit.Edit.{Edit}
-use Rattle.jsonptr_json_edits.specs.declared.edit.Edit.TheVariants.{Replace, Add, Insert, Append}
+use Rattle.jsonptr_json_edits.specs.declared.edit.Edit.TheVariants.{Replace, Add, Insert, Append, Rename}
 
 -- `OnlyItemDiffers i at at2 ds ds2`: the items `ds` and `ds2` differ only at the index `i`, where they have `at` and `at2`
 pub record OnlyItemDiffers (i : ℕ) (at at2 : Data) (ds ds2 : Items) : Type 0 where
@@ -33,6 +33,15 @@ pub record InsertsMember (k : List ℕ) (e : Data) (ms ms2 : Members) : Type 0 w
   pub none : get_member k ms ≡ None
   pub is : get_member k ms2 ≡ Some e
   pub others : (l : List ℕ) → (l ≡ k → ⊥) → get_member l ms2 ≡ get_member l ms
+
+-- `RenamesKey from to e ms ms2`: `ms2` are the members `ms`, in which `e` has the key `to` instead of `from`. Neither has members
+-- with both keys
+pub record RenamesKey (from to : List ℕ) (e : Data) (ms ms2 : Members) : Type 0 where
+  pub was : get_member from ms ≡ Some e
+  pub free : get_member to ms ≡ None
+  pub is : get_member to ms2 ≡ Some e
+  pub gone : get_member from ms2 ≡ None
+  pub others : (l : List ℕ) → (l ≡ from → ⊥) → (l ≡ to → ⊥) → get_member l ms2 ≡ get_member l ms
 
 -- `AddsElement c e d d2`, `AddsChosenMember c e d d2`: `d2` is the array or the object `d` with one child more, `e`, which `c` selects
 pub record AddsElement (c : Choice) (e d d2 : Data) : Type 0 where
@@ -93,12 +102,22 @@ pub record AppendsElement (c : Choice) (e d d2 : Data) : Type 0 where
   pub last : i ≡ items_count ds
   pub inserts : InsertsItem i e ds ds2
 
+-- `RenamesMember from to d d2`: `d2` is the object `d`, in which the member with the key `from` has the key `to` instead
+pub record RenamesMember (from to : List ℕ) (d d2 : Data) : Type 0 where
+  pub ms : Members
+  pub ms2 : Members
+  pub e : Data
+  pub old : d ≡ object ms
+  pub new : d2 ≡ object ms2
+  pub renames : RenamesKey from to e ms ms2
+
 -- `Makes edit d d2`: the edit makes `d2` of `d`
 abbrev pub Makes : Edit → Data → Data → Type 0
 Makes (Replace old new) d d2 = (read (string_bytes old) ≡ Some d) × (read (string_bytes new) ≡ Some d2)
 Makes (Add child) d d2 = (e : Data) × (read (string_bytes child.value) ≡ Some e) × AddsChosenMember (choice_of child.selector) e d d2
 Makes (Insert child) d d2 = (e : Data) × (read (string_bytes child.value) ≡ Some e) × AddsElement (choice_of child.selector) e d d2
 Makes (Append child) d d2 = (e : Data) × (read (string_bytes child.value) ≡ Some e) × AppendsElement (choice_of child.selector) e d d2
+Makes (Rename renaming) d d2 = RenamesMember (string_bytes renaming.from) (string_bytes renaming.to) d d2
 
 -- `IsEdited old new cs edit`: the texts read as documents that differ only in the value that the selectors `cs` lead to, of
 -- which the edit makes the new one

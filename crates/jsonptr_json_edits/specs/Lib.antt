@@ -5,4 +5,5 @@ pub mod Leading
 pub mod PrivateChild
 pub mod PrivateEditing
 pub mod PrivateLeading
+pub mod PrivateRenaming
 pub mod Spacing

@@ -12,6 +12,7 @@ use crate::buffers::Buffers;
 use crate::check_error::CheckError;
 use crate::decide::{Wanted, is_at, is_either, may_follow};
 use crate::edit::{Edit, EditAt};
+use crate::rename::rename;
 use crate::same::{Readers, same, same_key, same_text, same_token};
 use json::{Reader, Scratch, Token};
 use jsonptr_json_search::decide::is_text;
@@ -141,6 +142,7 @@ fn make(
         Edit::Add(child) => add(scratch, readers, depth, child),
         Edit::Insert(child) => insert(scratch, readers, depth, child),
         Edit::Append(child) => append(scratch, readers, depth, child),
+        Edit::Rename(renaming) => rename(readers, depth, renaming),
     }
 }
 

@@ -168,7 +168,19 @@ fn is_member_name(scratch: &mut Scratch, text: &str, key: &str) -> Result<bool, 
 }
 
 /// Returns whether the text is a string with this content, without white space around it.
-fn is_name(scratch: &mut Scratch, text: &str, key: &str) -> Result<bool, AllocError>
+///
+/// # Errors
+///
+/// [`AllocError`] if there is no memory for the unescaped string.
+///
+/// # Examples
+///
+/// ```rust
+/// let mut scratch = Scratch::new(alloc);
+/// assert!(rt; is_name(&mut scratch, r#""\u0061""#, "a")?);
+/// assert!(rt; !is_name(&mut scratch, r#" "a""#, "a")?);
+/// ```
+pub fn is_name(scratch: &mut Scratch, text: &str, key: &str) -> Result<bool, AllocError>
     ensures { IfOk result (λ b. IsTrue b → IsValueText (string key.now) text.now) }
 {
     Ok(is_string(scratch, text, key)? && is_trimmed(text))

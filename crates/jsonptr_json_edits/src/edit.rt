@@ -18,6 +18,8 @@ pub enum Edit {
     Insert(Child),
     /// Adds an element after the last one of an array. Its selector has the index of the new element.
     Append(Child),
+    /// Gives a member of an object another key. The member keeps its place and its value.
+    Rename(Renaming),
 }
 
 /// A child that an edit adds to an array or an object.
@@ -29,6 +31,16 @@ pub struct Child {
     pub position: usize,
     /// The JSON text of the child.
     pub value: String,
+}
+
+/// The keys of a member of an object before and after an edit. It is the only member with the first key,
+/// and no member has the second one before.
+#[derive(Debug, Drop)]
+pub struct Renaming {
+    /// The key of the member before.
+    pub from: String,
+    /// Its key after.
+    pub to: String,
 }
 
 /// An edit, and the way to the value that it changes.

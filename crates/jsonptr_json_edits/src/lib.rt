@@ -17,6 +17,8 @@ pub mod laws;
 pub mod layout;
 pub mod lead;
 pub mod locate;
+pub mod member;
+mod rename;
 mod same;
 pub mod spacing;
 mod spread;
