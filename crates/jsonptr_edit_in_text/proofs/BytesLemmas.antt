@@ -26,14 +26,15 @@ use Rattle.jsonptr_json_edits.specs.declared.edit.Edit.TheVariants as edit
 use Rattle.jsonptr_json_edits.specs.Spacing.{IsBlank, IsTrimmed}
 use Rattle.jsonptr_json_edits.specs.Child.{IsValueText}
 use Rattle.jsonptr_json_edits.specs.PrivateChild.{IsCutChild}
+use Rattle.jsonptr_edit_in_text.specs.Steps.{ReplacesByText, AddsAtByText}
 use Rattle.jsonptr_edit_in_text.specs.Bytes.{IsScalar, HasPlace, ReplacesBytes, CutsBytes, CutsInTurn, CutsMembers, CutsElement}
 use Rattle.jsonptr_text_value.specs.Raw.{value_of_raw}
 use Rattle.jsonptr_edit_in_text.specs.PatchInText.{AddsAtBytes}
-use Rattle.jsonptr_edit_in_text.specs.PrivateReaching.{ReachedInText, ReplacesCut, SplicesAt, MemberAdded, ElementAppended, ReplacesByText, ReplacesScalarByText, AddsPieceByText, AddsByText}
+use Rattle.jsonptr_edit_in_text.specs.PrivateReaching.{ReachedInText, ReplacesCut, SplicesAt, MemberAdded, ElementAppended, ReplacesScalarByText, AddsPieceByText, AddsByText}
 use Rattle.jsonptr_edit_in_text.specs.PrivateGiving.{ReplacesWith, ExpandsWith, AddsWith}
 use Rattle.jsonptr_text_value.specs.Wrapping.{wrapped}
 use Rattle.jsonptr_edit_in_text.specs.Placing.{IsAt}
-use Rattle.jsonptr_edit_in_text.specs.PrivateOperating.{ElementInserted, AddsAtByText}
+use Rattle.jsonptr_edit_in_text.specs.PrivateOperating.{ElementInserted}
 use Rattle.jsonptr_edit_in_text.specs.RawPatching.{AddsGiven, ReplacesGiven}
 use Rattle.jsonptr_text_value.specs.declared.raw_value.RawValue.{RawValue}
 use Rattle.jsonptr_text_value.proofs.WrappingLemmas.{same_data}

@@ -198,12 +198,12 @@ null_expanded c tokens v m old null h = on_null tokens v m old (subst (λ (x : C
 
 -- ---- a result that may be nothing
 
-pub if_new : (r : Result (Option (String Global)) AllocError) (P Q : String Global → Type 0) → ((s : String Global) → P s → Q s) → IfOk r (λ o. IfSome o P) → IfOk r (λ o. IfSome o Q)
+pub if_new : {A : Type 0} (r : Result (Option A) AllocError) (P Q : A → Type 0) → ((s : A) → P s → Q s) → IfOk r (λ o. IfSome o P) → IfOk r (λ o. IfSome o Q)
 if_new (Err e) P Q f h = h
 if_new (Ok None) P Q f h = h
 if_new (Ok (Some s)) P Q f h = f s h
 
-pub if_both : (r : Result (Option (String Global)) AllocError) (P Q : String Global → Type 0) → IfOk r (λ o. IfSome o P) → IfOk r (λ o. IfSome o Q) → IfOk r (λ o. IfSome o (λ s. P s × Q s))
+pub if_both : {A : Type 0} (r : Result (Option A) AllocError) (P Q : A → Type 0) → IfOk r (λ o. IfSome o P) → IfOk r (λ o. IfSome o Q) → IfOk r (λ o. IfSome o (λ s. P s × Q s))
 if_both (Err e) P Q h k = h
 if_both (Ok None) P Q h k = h
 if_both (Ok (Some s)) P Q h k = (h, k)
@@ -217,17 +217,11 @@ scalar_label c a h = (a, ap label_of h)
 
 -- ---- what an edit does, by the text of its value
 
-pub edited_reaches : (r : Result (Option (String Global)) AllocError) (old : Text) (tokens : List Text) (cs : List json_search.Choice) (edit : Edit) → AreChoicesOf tokens cs
-    → IfOk r (λ o. IfSome o (λ s. IsEdited old (string_bytes s) cs edit)) → IfOk r (λ o. IfSome o (λ s. ReachedInText old (string_bytes s) tokens (Makes edit)))
-edited_reaches r old tokens cs edit are h =
-    if_new r (λ s. IsEdited old (string_bytes s) cs edit) (λ s. ReachedInText old (string_bytes s) tokens (Makes edit)) (λ s k. reached_in_text old (string_bytes s) tokens cs (Makes edit) are k) h
-
-pub value_edit_reaches : (r : Result (Option (String Global)) AllocError) (old : Text) (tokens : List Text) (middle flat : Text) (made : ValueEdit) → IsValueEdit middle flat made
-    → IfOk r (λ o. IfSome o (λ s. ReachedInText old (string_bytes s) tokens (Makes made.edit))) → IfOk r (λ o. IfSome o (λ s. ReachedInText old (string_bytes s) tokens (ReplacesCut middle flat)))
-value_edit_reaches r old tokens middle flat made is h =
-    subst (λ (w : Text). IfOk r (λ o. IfSome o (λ s. ReachedInText old (string_bytes s) tokens (ReplacesCut w flat)))) is.old
-    (subst (λ (f : Text). IfOk r (λ o. IfSome o (λ s. ReachedInText old (string_bytes s) tokens (ReplacesCut (string_bytes is.before) f)))) is.new
-    (subst (λ (e : Edit). IfOk r (λ o. IfSome o (λ s. ReachedInText old (string_bytes s) tokens (Makes e)))) is.edit h))
+pub replaced_reaches : (old new : Text) (tokens : List Text) (cs : List json_search.Choice) (middle flat : Text) (made : ValueEdit) → AreChoicesOf tokens cs → IsValueEdit middle flat made → IsEdited old new cs made.edit → ReachedInText old new tokens (ReplacesCut middle flat)
+replaced_reaches old new tokens cs middle flat made are is h =
+    subst (λ (w : Text). ReachedInText old new tokens (ReplacesCut w flat)) is.old
+    (subst (λ (f : Text). ReachedInText old new tokens (ReplacesCut (string_bytes is.before) f)) is.new
+    (subst (λ (e : Edit). ReachedInText old new tokens (Makes e)) is.edit (reached_in_text old new tokens cs (Makes made.edit) are h)))
 
 pub of_value : (old new : Text) (tokens : List Text) (flat : Text) (v : Data) → read flat ≡ Some v → ReachedInText old new tokens (Becomes flat) → AssignsInText old tokens (nodes v) new
 of_value old new tokens flat v is h = assigns_value old new tokens (Becomes flat) v (λ at at2 m. same_data at2 v (sym m ∙ is)) h

@@ -1,10 +1,10 @@
 mod BytesLaws
 mod DeletionLemmas
-mod OperatingLemmas
 mod RewritingLemmas
 pub mod BytesLemmas
 pub mod EditLemmas
 pub mod InPlaceLemmas
+pub mod OperatingLemmas
 pub mod RawLemmas
 pub mod ReachingLemmas
 pub mod RemoveLemmas

@@ -32,11 +32,12 @@ use Rattle.jsonptr_patch.specs.declared.comparison.Comparison.TheVariants.{Numer
 use Rattle.jsonptr_json_edits.specs.Editing.{InsertsItem, ChangesChild, ChangesAt, IsEdited}
 use Rattle.jsonptr_json_edits.specs.Leading.{LeadsInText}
 use Rattle.jsonptr_json_edits.specs.declared.edit.Edit.TheVariants.{Replace}
+use Rattle.jsonptr_edit_in_text.specs.Steps.{AddsInText, ReplacesInText, PassesInText}
 use Rattle.jsonptr_edit_in_text.specs.EditInText.{DeletesInText}
 use Rattle.jsonptr_edit_in_text.specs.PatchInText.{PatchesInText}
 use Rattle.jsonptr_edit_in_text.specs.declared.replace.ValueEdit.{ValueEdit}
 use Rattle.jsonptr_edit_in_text.specs.PrivateReaching.{ReachedInText, Becomes, ReplacesCut, IsValueEdit, MemberAdded, ElementAppended}
-use Rattle.jsonptr_edit_in_text.specs.PrivateOperating.{OperatesInText, PutsInText, AddsValueInText, AddsInText, FindsText, MovesInText, CopiesInText, PassesInText, ElementInserted, AreMemberChoices}
+use Rattle.jsonptr_edit_in_text.specs.PrivateOperating.{PutsInText, AddsValueInText, FindsText, MovesInText, CopiesInText, ElementInserted, AreMemberChoices, OperatesInText}
 use Rattle.jsonptr_text_value.proofs.WrappingLemmas.{same_data}
 use Rattle.jsonptr_edit_in_text.proofs.EditLemmas.{label_there, map_there, member_map}
 use Rattle.jsonptr_edit_in_text.proofs.ReachingLemmas.{item_content, below, same_below, put_level, in_object, reached_in_text}
@@ -51,6 +52,11 @@ pub puts : (old new : Text) (tokens : List Text) (flat : Text) (v : Data) → re
 puts old new tokens flat v is h =
     let r = h.4 in
     (h.0, h.1, h.2, h.3, record { path = r.path; named = r.named; made = r.made ∙ ap (λ (x : Data). put (nodes h.0) r.path (nodes x)) (same_data r.at2 v (sym r.changes ∙ is)) })
+
+pub replaces_text : (old new : Text) (tokens : List Text) (flat : Text) → ReachedInText old new tokens (Becomes flat) → ReplacesInText old tokens flat new
+replaces_text old new tokens flat h =
+    let r = h.4 in
+    (h.0, h.1, r.at2, h.2, h.3, r.changes, record { path = r.path; named = r.named; made = r.made })
 
 whole : (n m v : NodeMap) (w : Path) → Names n [] w → m ≡ put n w v → m ≡ v
 whole n m v [] named made = made
@@ -240,9 +246,9 @@ removes old new tokens h = (
 
 -- ---- a test
 
-pub tests : (old t : Text) (tokens path : List Text) (value : Value) → t ≡ old → tokens ≡ path → PassesInText t tokens (nodes (view value)) → OperatesInText old (Test path value) old
-tests old t tokens path value same there h =
-    let p = subst (λ (ts : List Text). PassesInText old ts (nodes (view value))) there (subst (λ (s : Text). PassesInText s tokens (nodes (view value))) same h) in
+pub tests : (old : Text) (tokens path : List Text) (value : Value) → tokens ≡ path → PassesInText old tokens (nodes (view value)) → OperatesInText old (Test path value) old
+tests old tokens path value there h =
+    let p = subst (λ (ts : List Text). PassesInText old ts (nodes (view value))) there h in
     (p.0, p.0, p.1, p.1, (p.2, refl))
 
 -- ---- all operations

@@ -9,6 +9,7 @@ use Rattle.jsonptr.specs.Text.{Text}
 use Rattle.jsonptr_patch.specs.declared.operation.Operation.{Operation}
 use Rattle.jsonptr_patch.specs.declared.operation.Operation.TheVariants.{Add, Remove, Replace, Move, Copy, Test}
 use Rattle.jsonptr_patch.specs.declared.failed_operation.FailedOperation.{FailedOperation}
+use Rattle.jsonptr_edit_in_text.specs.declared.plan.Made.{Made}
 use Rattle.jsonptr_edit_in_text.specs.Bytes.{KeepsBytes, ReplacesBytes}
 use Rattle.jsonptr_text_value.specs.Raw.{value_of_raw}
 use Rattle.jsonptr_text_value.specs.Fitting.{IsRawTextOf}
@@ -52,26 +53,26 @@ kept_bytes (Ok (Rewritten s)) old rs os same h = h
 pub text_is : (value : Value) (text : Option RawValue) (raw : RawValue) → text ≡ Some raw → IsRawTextOf value text → value_of_raw raw ≡ view value
 text_is value text raw is h = subst (λ (o : Option RawValue). IsRawTextOf value o) is h
 
-pub adds_some : (r : Result (Option (String Global)) AllocError) (old : Text) (ts : List Text) (value : Value) (text : Option RawValue) (raw : RawValue) → text ≡ Some raw → IsRawTextOf value text
-    → IfOk r (λ n. IfSome n (λ s. AddsGiven old ts (value_of_raw raw) (Some raw) (string_bytes s))) → IfOk r (λ n. IfSome n (λ s. AddsGiven old ts (view value) text (string_bytes s)))
+pub adds_some : (r : Result (Option Made) AllocError) (old : Text) (ts : List Text) (value : Value) (text : Option RawValue) (raw : RawValue) → text ≡ Some raw → IsRawTextOf value text
+    → IfOk r (λ n. IfSome n (λ s. AddsGiven old ts (value_of_raw raw) (Some raw) (string_bytes s.text))) → IfOk r (λ n. IfSome n (λ s. AddsGiven old ts (view value) text (string_bytes s.text)))
 adds_some r old ts value text raw is of h =
-    subst (λ (o : Option RawValue). IfOk r (λ n. IfSome n (λ s. AddsGiven old ts (view value) o (string_bytes s)))) (sym is)
-    (subst (λ (d : Data). IfOk r (λ n. IfSome n (λ s. AddsGiven old ts d (Some raw) (string_bytes s)))) (text_is value text raw is of) h)
+    subst (λ (o : Option RawValue). IfOk r (λ n. IfSome n (λ s. AddsGiven old ts (view value) o (string_bytes s.text)))) (sym is)
+    (subst (λ (d : Data). IfOk r (λ n. IfSome n (λ s. AddsGiven old ts d (Some raw) (string_bytes s.text)))) (text_is value text raw is of) h)
 
-pub adds_none : (r : Result (Option (String Global)) AllocError) (old : Text) (ts : List Text) (value : Value) (text : Option RawValue) → text ≡ None
-    → IfOk r (λ n. IfSome n (λ s. AddsAtBytes old ts (view value) (string_bytes s))) → IfOk r (λ n. IfSome n (λ s. AddsGiven old ts (view value) text (string_bytes s)))
+pub adds_none : (r : Result (Option Made) AllocError) (old : Text) (ts : List Text) (value : Value) (text : Option RawValue) → text ≡ None
+    → IfOk r (λ n. IfSome n (λ s. AddsAtBytes old ts (view value) (string_bytes s.text))) → IfOk r (λ n. IfSome n (λ s. AddsGiven old ts (view value) text (string_bytes s.text)))
 adds_none r old ts value text is h =
-    subst (λ (o : Option RawValue). IfOk r (λ n. IfSome n (λ s. AddsGiven old ts (view value) o (string_bytes s)))) (sym is)
-    (if_new r (λ s. AddsAtBytes old ts (view value) (string_bytes s)) (λ s. AddsGiven old ts (view value) None (string_bytes s)) (λ s b. (b, tt)) h)
+    subst (λ (o : Option RawValue). IfOk r (λ n. IfSome n (λ s. AddsGiven old ts (view value) o (string_bytes s.text)))) (sym is)
+    (if_new r (λ s. AddsAtBytes old ts (view value) (string_bytes s.text)) (λ s. AddsGiven old ts (view value) None (string_bytes s.text)) (λ s b. (b, tt)) h)
 
-pub replaces_some : (r : Result (Option (String Global)) AllocError) (old : Text) (ts : List Text) (value : Value) (text : Option RawValue) (raw : RawValue) → text ≡ Some raw → IsRawTextOf value text
-    → IfOk r (λ n. IfSome n (λ s. ReplacesGiven old ts (value_of_raw raw) (Some raw) (string_bytes s))) → IfOk r (λ n. IfSome n (λ s. ReplacesGiven old ts (view value) text (string_bytes s)))
+pub replaces_some : (r : Result (Option Made) AllocError) (old : Text) (ts : List Text) (value : Value) (text : Option RawValue) (raw : RawValue) → text ≡ Some raw → IsRawTextOf value text
+    → IfOk r (λ n. IfSome n (λ s. ReplacesGiven old ts (value_of_raw raw) (Some raw) (string_bytes s.text))) → IfOk r (λ n. IfSome n (λ s. ReplacesGiven old ts (view value) text (string_bytes s.text)))
 replaces_some r old ts value text raw is of h =
-    subst (λ (o : Option RawValue). IfOk r (λ n. IfSome n (λ s. ReplacesGiven old ts (view value) o (string_bytes s)))) (sym is)
-    (subst (λ (d : Data). IfOk r (λ n. IfSome n (λ s. ReplacesGiven old ts d (Some raw) (string_bytes s)))) (text_is value text raw is of) h)
+    subst (λ (o : Option RawValue). IfOk r (λ n. IfSome n (λ s. ReplacesGiven old ts (view value) o (string_bytes s.text)))) (sym is)
+    (subst (λ (d : Data). IfOk r (λ n. IfSome n (λ s. ReplacesGiven old ts d (Some raw) (string_bytes s.text)))) (text_is value text raw is of) h)
 
-pub replaces_none : (r : Result (Option (String Global)) AllocError) (old : Text) (ts : List Text) (value : Value) (text : Option RawValue) → text ≡ None
-    → IfOk r (λ n. IfSome n (λ s. ReplacesBytes old (string_bytes s) ts (view value))) → IfOk r (λ n. IfSome n (λ s. ReplacesGiven old ts (view value) text (string_bytes s)))
+pub replaces_none : (r : Result (Option Made) AllocError) (old : Text) (ts : List Text) (value : Value) (text : Option RawValue) → text ≡ None
+    → IfOk r (λ n. IfSome n (λ s. ReplacesBytes old (string_bytes s.text) ts (view value))) → IfOk r (λ n. IfSome n (λ s. ReplacesGiven old ts (view value) text (string_bytes s.text)))
 replaces_none r old ts value text is h =
-    subst (λ (o : Option RawValue). IfOk r (λ n. IfSome n (λ s. ReplacesGiven old ts (view value) o (string_bytes s)))) (sym is)
-    (if_new r (λ s. ReplacesBytes old (string_bytes s) ts (view value)) (λ s. ReplacesGiven old ts (view value) None (string_bytes s)) (λ s b. (b, tt)) h)
+    subst (λ (o : Option RawValue). IfOk r (λ n. IfSome n (λ s. ReplacesGiven old ts (view value) o (string_bytes s.text)))) (sym is)
+    (if_new r (λ s. ReplacesBytes old (string_bytes s.text) ts (view value)) (λ s. ReplacesGiven old ts (view value) None (string_bytes s.text)) (λ s b. (b, tt)) h)

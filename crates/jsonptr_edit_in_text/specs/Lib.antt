@@ -11,3 +11,4 @@ pub mod PrivateOperating
 pub mod PrivateReaching
 pub mod PrivateRewriting
 pub mod RawPatching
+pub mod Steps

@@ -32,12 +32,6 @@ abbrev pub AddsValueInText : Text → List Text → NodeMap → Text → Type 0
 AddsValueInText old tokens v new =
     (d d2 : Data) × (read old ≡ Some d) × (read new ≡ Some d2) × Adds (nodes d) tokens v (nodes d2)
 
--- `AddsInText old tokens piece new`: the same for the value of the text `piece` that is added
-abbrev pub AddsInText : Text → List Text → Text → Text → Type 0
-AddsInText old tokens piece new =
-    (d d2 e : Data) × (read old ≡ Some d) × (read new ≡ Some d2) × (read piece ≡ Some e)
-    × Adds (nodes d) tokens (nodes e) (nodes d2)
-
 -- `FindsText old tokens piece`: `tokens` identify the value of the text `piece`
 abbrev pub FindsText : Text → List Text → Text → Type 0
 FindsText old tokens piece = (e : Data) × (read piece ≡ Some e) × FindsInText old tokens e
@@ -51,19 +45,10 @@ abbrev pub CopiesInText : Text → List Text → List Text → Text → Type 0
 CopiesInText old from path new =
     (d d2 : Data) × (read old ≡ Some d) × (read new ≡ Some d2) × Copies (nodes d) from path (nodes d2)
 
--- `PassesInText text tokens v`: the test that the value at `tokens` equals `v` passes
-abbrev pub PassesInText : Text → List Text → NodeMap → Type 0
-PassesInText text tokens v = (d : Data) × (read text ≡ Some d) × PassesBy Numeric (nodes d) tokens v
-
 -- `ElementInserted x piece d d2`: `d2` is the array `d` with the value of the text `piece` as an element more, at the index `x`
 abbrev pub ElementInserted : Text → Text → Data → Data → Type 0
 ElementInserted x piece d d2 =
     (e : Data) × (c : Choice) × (read piece ≡ Some e) × IsChoiceOf x c × AddsElement c e d d2
-
--- `AddsAtByText old tokens flat new`: which bytes change where the value of the text `flat` is added
-abbrev pub AddsAtByText : Text → List Text → Text → Text → Type 0
-AddsAtByText old tokens flat new =
-    (e : Data) × (read flat ≡ Some e) × (b : AddsAtBytes old tokens e new) × (lexed (added_text old tokens e new b) ≡ lexed flat)
 
 -- `AreMemberChoices tokens x cs`: `cs` are the selectors of `tokens`, and one of the member with the key `x`
 abbrev pub AreMemberChoices : List Text → Text → List Choice → Type 0

@@ -85,13 +85,7 @@ pub record ElementAppended (x piece : Text) (d d2 : Data) : Type 0 where
 -- ---- which bytes change, by the text of the value that an edit brings. What is put into the text as the value has the tokens
 -- of that text
 
--- `ReplacesByText old new tokens flat`: the value that `tokens` identify is replaced by that of the text `flat`, with its
--- tokens
-abbrev pub ReplacesByText : Text → Text → List Text → Text → Type 0
-ReplacesByText old new tokens flat =
-    (e : Data) × (read flat ≡ Some e) × (b : ReplacesBytes old new tokens e) × (lexed b.piece ≡ lexed flat)
-
--- `ReplacesScalarByText old new tokens flat`: the same of a scalar
+-- `ReplacesScalarByText old new tokens flat`: the scalar that `tokens` identify is replaced by the value of the text `flat`
 abbrev pub ReplacesScalarByText : Text → Text → List Text → Text → Type 0
 ReplacesScalarByText old new tokens flat =
     (e : Data) × (read flat ≡ Some e) × (b : ReplacesBytes old new tokens e) × IsScalar b.value × (lexed b.piece ≡ lexed flat)

@@ -2,13 +2,15 @@
 ghost use Rattle.std.specs.Prelude.{[], ◌∷◌, ◌++◌, IfOk, IfSome, string_bytes};
 ghost use Rattle.jsonptr.specs.Pointer.{tokens};
 ghost use Rattle.jsonptr_json_search.specs.Search.{choices};
-ghost use Rattle.jsonptr_edit_in_text.specs.PrivateOperating.{AddsInText, AddsAtByText, AreMemberChoices};
+ghost use Rattle.jsonptr_edit_in_text.specs.Steps.{AddsInText, AddsAtByText};
+ghost use Rattle.jsonptr_edit_in_text.specs.PrivateOperating.{AreMemberChoices};
 ghost use Rattle.jsonptr_edit_in_text.specs.PrivateReaching.{AddsByText};
 
 use crate::edit::{ValueEditAt, put_value};
 use crate::insert::{add_member, append, insert};
 use crate::lead::child_selectors;
 use crate::place::Site;
+use crate::plan::{Made, Plan, Replaced};
 use crate::replace::{replace_at, value_edit};
 use jsonptr::{Pointer, Token};
 use jsonptr_in_text::selectors::selectors_of;
@@ -27,22 +29,22 @@ use std::alloc::{AllocError, Global};
 ///
 /// [`AllocError`] if an allocation fails.
 pub fn add_at(
-    alloc: Global,
     buffers: &mut Buffers,
     text: &str,
     pointer: Pointer<'_>,
     printed: &ValueText,
-) -> Result<Option<String>, AllocError>
+) -> Result<Option<Made>, AllocError>
     ensures added { IfOk result (λ new. IfSome new (λ s. AddsInText text.now
-        (tokens pointer.entry) (string_bytes printed.now.flat) (string_bytes s))) }
+        (tokens pointer.entry) (string_bytes printed.now.flat) (string_bytes s.text))) }
     ensures bytes { IfOk result (λ new. IfSome new (λ s. AddsAtByText text.now
-        (tokens pointer.entry) (string_bytes printed.now.flat) (string_bytes s))) }
+        (tokens pointer.entry) (string_bytes printed.now.flat) (string_bytes s.text))) }
 {
+    let alloc = buffers.alloc;
     match pointer.split_back() {
-        None => replace_at(alloc, buffers, text, pointer, printed),
+        None => replace_at(buffers, text, pointer, printed),
         Some((front, token)) => {
             let selectors = member_selectors(alloc, front, &token)?;
-            let Some(place) = place_of(alloc, buffers, text, &selectors)? else {
+            let Some(place) = place_of(buffers, text, &selectors)? else {
                 return Ok(None);
             };
             let site = Site {
@@ -51,9 +53,9 @@ pub fn add_at(
                 place: &place,
             };
             if place.depth == selectors.len() {
-                replace_member(alloc, buffers, &site, &token, printed)
+                replace_member(buffers, &site, &token, printed)
             } else if place.depth.checked_add(1) == Some(selectors.len()) {
-                add_new(alloc, buffers, &site, &token, printed)
+                add_new(buffers, &site, &token, printed)
             } else {
                 Ok(None)
             }
@@ -79,24 +81,24 @@ fn member_selectors(
 /// Replaces the member with the key of the token, of the object that the pointer resolves to. The site is
 /// that of the member.
 fn replace_member(
-    alloc: Global,
     buffers: &mut Buffers,
     site: &Site<'_>,
     token: &Token<'_>,
     printed: &ValueText,
-) -> Result<Option<String>, AllocError>
+) -> Result<Option<Made>, AllocError>
     ensures added { IfOk result (λ new. IfSome new (λ s. AddsInText site.now.text.now
         (tokens site.now.pointer ++ token.now ∷ []) (string_bytes printed.now.flat)
-        (string_bytes s))) }
+        (string_bytes s.text))) }
     ensures bytes { IfOk result (λ new. IfSome new (λ s. AddsAtByText site.now.text.now
         (tokens site.now.pointer ++ token.now ∷ []) (string_bytes printed.now.flat)
-        (string_bytes s))) }
+        (string_bytes s.text))) }
 {
+    let alloc = buffers.alloc;
     let span = site.place.value;
     let Some(cut) = cut_at(site.text, span.from, span.to) else {
         return Ok(None);
     };
-    let Some(made) = value_edit(alloc, buffers, &cut, site, printed)? else {
+    let Some(made) = value_edit(buffers, &cut, site, printed)? else {
         return Ok(None);
     };
     let selectors = member_selectors(alloc, site.pointer, token)?;
@@ -111,28 +113,35 @@ fn replace_member(
         path: &path,
         piece: made.piece.as_str(),
     };
-    put_value(alloc, buffers, &cut, at)
+    let Some(text) = put_value(buffers, &cut, at)? else {
+        return Ok(None);
+    };
+    let plan = Plan::Replaced(Replaced {
+        value: span,
+        depth: site.place.depth,
+        piece: made.piece,
+    });
+    Ok(Some(Made { text, plan }))
 }
 
 /// Adds the value as a new child of the array or object at the site.
 fn add_new(
-    alloc: Global,
     buffers: &mut Buffers,
     site: &Site<'_>,
     token: &Token<'_>,
     printed: &ValueText,
-) -> Result<Option<String>, AllocError>
+) -> Result<Option<Made>, AllocError>
     ensures added { IfOk result (λ new. IfSome new (λ s. AddsInText site.now.text.now
         (tokens site.now.pointer ++ token.now ∷ []) (string_bytes printed.now.flat)
-        (string_bytes s))) }
+        (string_bytes s.text))) }
     ensures bytes { IfOk result (λ new. IfSome new (λ s. AddsByText site.now.text.now
-        (string_bytes s) (tokens site.now.pointer) token.now (string_bytes printed.now.flat))) }
+        (string_bytes s.text) (tokens site.now.pointer) token.now (string_bytes printed.now.flat))) }
 {
     if site.slice().starts_with('{') {
-        add_member(alloc, buffers, site, token, printed)
+        add_member(buffers, site, token, printed)
     } else if token.is_next() {
-        append(alloc, buffers, site, token, printed)
+        append(buffers, site, token, printed)
     } else {
-        insert(alloc, buffers, site, token, printed)
+        insert(buffers, site, token, printed)
     }
 }

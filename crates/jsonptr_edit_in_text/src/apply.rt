@@ -188,21 +188,21 @@ pub fn try_apply_raw_in_place(
         (λ s. RawPatchBytes text.now operations.now (string_bytes s))) }
 {
     let Some((first, rest)) = operations.split_first() else {
-        return unchanged(alloc, buffers, text);
+        return unchanged(buffers, text);
     };
-    let start = String::from_str(alloc, text)?;
-    let Some(next) = operate(alloc, buffers, start, first)? else {
+    let Some(next) = operate(buffers, text, first)? else {
         return Ok(None);
     };
-    apply_rest(alloc, buffers, next, rest)
+    apply_rest(buffers, next.text, rest)
 }
 
 /// Returns the text, if it is a document.
-fn unchanged(alloc: Global, buffers: &mut Buffers, text: &str) -> Result<Option<String>, AllocError>
+fn unchanged(buffers: &mut Buffers, text: &str) -> Result<Option<String>, AllocError>
     ensures applied { IfOk result (λ new. IfSome new
         (λ s. PatchesInText text.now [] (string_bytes s))) }
     ensures same { IfOk result (λ new. IfSome new (λ s. string_bytes s ≡ text.now)) }
 {
+    let alloc = buffers.alloc;
     let is_json = is_document(&mut buffers.old, text)?;
     if is_json {
         Ok(Some(String::from_str(alloc, text)?))
@@ -213,7 +213,6 @@ fn unchanged(alloc: Global, buffers: &mut Buffers, text: &str) -> Result<Option<
 
 /// Applies the operations in order to the text, which is a document, each in place.
 fn apply_rest(
-    alloc: Global,
     buffers: &mut Buffers,
     text: String,
     operations: &[RawOperation],
@@ -226,10 +225,10 @@ fn apply_rest(
 {
     let mut current = text;
     'operations: for operation in operations {
-        let Some(next) = operate(alloc, buffers, current, operation)? else {
+        let Some(next) = operate(buffers, current.as_str(), operation)? else {
             return Ok(None);
         };
-        current = next;
+        current = next.text;
     }
     Ok(Some(current))
 }

@@ -12,6 +12,7 @@ ghost use Rattle.jsonptr_edit_in_text.specs.PrivateGiving.{ReplacesWith, AddsWit
 use crate::edited::{EditError, Edited};
 use crate::insert::{add_member, append};
 use crate::place::Site;
+use crate::plan::Made;
 use crate::replace::{replace, replace_scalar};
 use crate::rewrite::assign_and_print;
 use jsonptr::{Pointer, Token, assign};
@@ -147,8 +148,8 @@ pub fn assign_raw_in_text_with(
     ensures refused { IfErr result (IsAssignError text.now (tokens pointer.entry)
         (value_of_raw raw.now)) }
 {
-    if let Some(new) = try_assign(alloc, buffers, text, pointer, raw)? {
-        return Ok(Edited::InPlace(new));
+    if let Some(new) = try_assign(buffers, text, pointer, raw)? {
+        return Ok(Edited::InPlace(new.text));
     }
     let new = assign_and_print(alloc, text, pointer, raw.to_value(alloc)?)?;
     Ok(Edited::Rewritten(new))
@@ -160,20 +161,20 @@ pub fn assign_raw_in_text_with(
 /// # Errors
 ///
 /// [`AllocError`] if an allocation fails.
-fn try_assign(
-    alloc: Global,
+pub fn try_assign(
     buffers: &mut Buffers,
     text: &str,
     pointer: Pointer<'_>,
     raw: &RawValue,
-) -> Result<Option<String>, AllocError>
+) -> Result<Option<Made>, AllocError>
     ensures assigned { IfOk result (λ new. IfSome new (λ s.
-        AssignsInText text.now (tokens pointer.entry) (nodes (value_of_raw raw.now)) (string_bytes s))) }
+        AssignsInText text.now (tokens pointer.entry) (nodes (value_of_raw raw.now)) (string_bytes s.text))) }
     ensures bytes { IfOk result (λ new. IfSome new (λ s.
-        AssignsGiven text.now (tokens pointer.entry) raw.now (string_bytes s))) }
+        AssignsGiven text.now (tokens pointer.entry) raw.now (string_bytes s.text))) }
 {
+    let alloc = buffers.alloc;
     let selectors = selectors_of(alloc, pointer)?;
-    let Some(place) = place_of(alloc, buffers, text, &selectors)? else {
+    let Some(place) = place_of(buffers, text, &selectors)? else {
         return Ok(None);
     };
     let Some((front, rest)) = pointer.split_at(place.depth) else {
@@ -184,25 +185,24 @@ fn try_assign(
         pointer: front,
         place: &place,
     };
-    assign_from(alloc, buffers, &site, rest, raw)
+    assign_from(buffers, &site, rest, raw)
 }
 
 /// Assigns the value at the pointer of the site and then at the other one, whose first token leads to no
 /// child of the value at the site.
 fn assign_from(
-    alloc: Global,
     buffers: &mut Buffers,
     site: &Site<'_>,
     rest: Pointer<'_>,
     raw: &RawValue,
-) -> Result<Option<String>, AllocError>
+) -> Result<Option<Made>, AllocError>
     ensures assigned { IfOk result (λ new. IfSome new (λ s. AssignsInText site.now.text.now
-        (tokens site.now.pointer ++ tokens rest.entry) (nodes (value_of_raw raw.now)) (string_bytes s))) }
+        (tokens site.now.pointer ++ tokens rest.entry) (nodes (value_of_raw raw.now)) (string_bytes s.text))) }
     ensures bytes { IfOk result (λ new. IfSome new (λ s. AssignsGiven site.now.text.now
-        (tokens site.now.pointer ++ tokens rest.entry) raw.now (string_bytes s))) }
+        (tokens site.now.pointer ++ tokens rest.entry) raw.now (string_bytes s.text))) }
 {
     let Some((token, after)) = rest.split_front() else {
-        return assign_there(alloc, buffers, site, raw);
+        return assign_there(buffers, site, raw);
     };
     let text_there = site.slice();
     if text_there.starts_with('{') || text_there.starts_with('[') {
@@ -210,25 +210,24 @@ fn assign_from(
             token: &token,
             after,
         };
-        assign_child(alloc, buffers, site, &missing, raw)
+        assign_child(buffers, site, &missing, raw)
     } else {
-        assign_scalar(alloc, buffers, site, rest, raw)
+        assign_scalar(buffers, site, rest, raw)
     }
 }
 
 /// Replaces the value at the site.
 fn assign_there(
-    alloc: Global,
     buffers: &mut Buffers,
     site: &Site<'_>,
     raw: &RawValue,
-) -> Result<Option<String>, AllocError>
+) -> Result<Option<Made>, AllocError>
     ensures assigned { IfOk result (λ new. IfSome new (λ s. AssignsInText site.now.text.now
-        (tokens site.now.pointer) (nodes (value_of_raw raw.now)) (string_bytes s))) }
+        (tokens site.now.pointer) (nodes (value_of_raw raw.now)) (string_bytes s.text))) }
     ensures bytes { IfOk result (λ new. IfSome new (λ s. ReplacesWith raw.now site.now.text.now
-        (string_bytes s) (tokens site.now.pointer))) }
+        (string_bytes s.text) (tokens site.now.pointer))) }
 {
-    replace(alloc, buffers, site, &raw.printed)
+    replace(buffers, site, &raw.printed)
 }
 
 /// The tokens of a pointer that name nothing.
@@ -243,45 +242,45 @@ struct Missing<'a> {
 /// Adds a child to the array or object at the site, at its end: the value, expanded by the tokens after
 /// the first one that is missing.
 fn assign_child(
-    alloc: Global,
     buffers: &mut Buffers,
     site: &Site<'_>,
     missing: &Missing<'_>,
     raw: &RawValue,
-) -> Result<Option<String>, AllocError>
+) -> Result<Option<Made>, AllocError>
     ensures assigned { IfOk result (λ new. IfSome new (λ s. AssignsInText site.now.text.now
         (tokens site.now.pointer ++ missing.now.token.now ∷ tokens missing.now.after)
-        (nodes (value_of_raw raw.now)) (string_bytes s))) }
+        (nodes (value_of_raw raw.now)) (string_bytes s.text))) }
     ensures bytes { IfOk result (λ new. IfSome new (λ s. AddsWith raw.now site.now.text.now
-        (string_bytes s) (tokens site.now.pointer) missing.now.token.now
+        (string_bytes s.text) (tokens site.now.pointer) missing.now.token.now
         (tokens missing.now.after))) }
 {
+    let alloc = buffers.alloc;
     let Some(printed) = expanded_text(alloc, &mut buffers.value, missing.after, raw)? else {
         return Ok(None);
     };
     if site.slice().starts_with('{') {
-        add_member(alloc, buffers, site, missing.token, &printed)
+        add_member(buffers, site, missing.token, &printed)
     } else {
-        append(alloc, buffers, site, missing.token, &printed)
+        append(buffers, site, missing.token, &printed)
     }
 }
 
 /// Replaces the scalar at the site by the value, expanded by at least one token.
 fn assign_scalar(
-    alloc: Global,
     buffers: &mut Buffers,
     site: &Site<'_>,
     rest: Pointer<'_>,
     raw: &RawValue,
-) -> Result<Option<String>, AllocError>
+) -> Result<Option<Made>, AllocError>
     ensures assigned { (x : List ℕ) (after : List (List ℕ)) → tokens rest.entry ≡ x ∷ after
         → IfOk result (λ new. IfSome new (λ s. AssignsInText site.now.text.now
-        (tokens site.now.pointer ++ x ∷ after) (nodes (value_of_raw raw.now)) (string_bytes s))) }
+        (tokens site.now.pointer ++ x ∷ after) (nodes (value_of_raw raw.now)) (string_bytes s.text))) }
     ensures bytes { IfOk result (λ new. IfSome new (λ s. ExpandsWith raw.now site.now.text.now
-        (string_bytes s) (tokens site.now.pointer) (tokens rest.entry))) }
+        (string_bytes s.text) (tokens site.now.pointer) (tokens rest.entry))) }
 {
+    let alloc = buffers.alloc;
     let Some(printed) = expanded_text(alloc, &mut buffers.value, rest, raw)? else {
         return Ok(None);
     };
-    replace_scalar(alloc, buffers, site, &printed)
+    replace_scalar(buffers, site, &printed)
 }

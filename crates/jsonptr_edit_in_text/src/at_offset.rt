@@ -56,15 +56,15 @@ pub fn pointer_at<'t>(
 {
     let mut buffers = Buffers::new(alloc);
     let deepest = path_to(alloc, text, offset)?;
-    if let Some(found) = value_around(alloc, &mut buffers, text, offset, deepest.as_ptr())? {
+    if let Some(found) = value_around(&mut buffers, text, offset, deepest.as_ptr())? {
         return Ok(Some(found));
     }
     if let Some(parent) = deepest.as_ptr().parent() {
-        if let Some(found) = value_around(alloc, &mut buffers, text, offset, parent)? {
+        if let Some(found) = value_around(&mut buffers, text, offset, parent)? {
             return Ok(Some(found));
         }
     }
-    root_at(alloc, &mut buffers, text, offset)
+    root_at(&mut buffers, text, offset)
 }
 
 /// Returns the pointer of the value that the last token before the offset, or at it, belongs to. It is a
@@ -93,7 +93,6 @@ fn path_to(alloc: Global, text: &str, offset: usize) -> Result<PointerBuf, Alloc
 ///
 /// [`AllocError`] if an allocation fails.
 fn value_around<'t>(
-    alloc: Global,
     buffers: &mut Buffers,
     text: &'t str,
     offset: usize,
@@ -102,6 +101,7 @@ fn value_around<'t>(
     ensures { IfOk result (λ found. IfSome found (λ at. IsLocatedAt text.now offset at.pointer
         at.located.before.now at.located.value.now at.located.after.now)) }
 {
+    let alloc = buffers.alloc;
     match locate_in_text_with(alloc, buffers, text, pointer) {
         Ok(located) => if contains(&located, offset) {
             let pointer = pointer.to_buf(alloc)?;
@@ -116,7 +116,6 @@ fn value_around<'t>(
 
 /// Returns the document, if its text contains the byte at the offset.
 fn root_at<'t>(
-    alloc: Global,
     buffers: &mut Buffers,
     text: &'t str,
     offset: usize,
@@ -126,6 +125,7 @@ fn root_at<'t>(
         at.located.before.now at.located.value.now at.located.after.now)) }
     ensures refused { IfErr result (IsLocateError text.now []) }
 {
+    let alloc = buffers.alloc;
     let located = locate_in_text_with(alloc, buffers, text, Pointer::root())?;
     if contains(&located, offset) {
         let pointer = PointerBuf::new(alloc);

@@ -8,6 +8,7 @@ ghost use Rattle.jsonptr_edit_in_text.specs.EditInText.{edited_text, DeletesInTe
 
 use crate::edited::Edited;
 use crate::place::Site;
+use crate::plan::Made;
 use crate::remove::cut_children;
 use crate::replace::replace_at;
 use crate::rewrite::delete_and_print;
@@ -89,8 +90,8 @@ pub fn delete_in_text_with(
         (KeepsBytes (DeletesBytes text.now (tokens pointer.entry)))) }
     ensures refused { IfErr result (IsReadError text.now) }
 {
-    if let Some(new) = cut_out(alloc, buffers, text, pointer)? {
-        return Ok(Some(Edited::InPlace(new)));
+    if let Some(new) = cut_out(buffers, text, pointer)? {
+        return Ok(Some(Edited::InPlace(new.text)));
     }
     match delete_and_print(alloc, text, pointer)? {
         Some(new) => Ok(Some(Edited::Rewritten(new))),
@@ -105,21 +106,21 @@ pub fn delete_in_text_with(
 ///
 /// [`AllocError`] if an allocation fails.
 pub fn cut_out(
-    alloc: Global,
     buffers: &mut Buffers,
     text: &str,
     pointer: Pointer<'_>,
-) -> Result<Option<String>, AllocError>
+) -> Result<Option<Made>, AllocError>
     ensures deleted { IfOk result (λ new. IfSome new (λ s.
-        DeletesInText text.now (tokens pointer.entry) (string_bytes s))) }
+        DeletesInText text.now (tokens pointer.entry) (string_bytes s.text))) }
     ensures bytes { IfOk result (λ new. IfSome new (λ s.
-        DeletesBytes text.now (tokens pointer.entry) (string_bytes s))) }
+        DeletesBytes text.now (tokens pointer.entry) (string_bytes s.text))) }
 {
+    let alloc = buffers.alloc;
     match pointer.split_back() {
-        None => delete_root(alloc, buffers, text, pointer),
+        None => delete_root(buffers, text, pointer),
         Some((front, last)) => {
             let selectors = selectors_of(alloc, pointer)?;
-            let Some(place) = place_at(alloc, buffers, text, &selectors)? else {
+            let Some(place) = place_at(buffers, text, &selectors)? else {
                 return Ok(None);
             };
             let site = Site {
@@ -127,25 +128,25 @@ pub fn cut_out(
                 pointer: front,
                 place: &place,
             };
-            cut_children(alloc, buffers, &site, &last)
+            cut_children(buffers, &site, &last)
         }
     }
 }
 
 /// Replaces the root by `null`.
 fn delete_root(
-    alloc: Global,
     buffers: &mut Buffers,
     text: &str,
     pointer: Pointer<'_>,
-) -> Result<Option<String>, AllocError>
+) -> Result<Option<Made>, AllocError>
     ensures deleted { tokens pointer.entry ≡ [] → IfOk result (λ new. IfSome new (λ s.
-        DeletesInText text.now (tokens pointer.entry) (string_bytes s))) }
+        DeletesInText text.now (tokens pointer.entry) (string_bytes s.text))) }
     ensures bytes { IfOk result (λ new. IfSome new
-        (λ s. ReplacesBytes text.now (string_bytes s) (tokens pointer.entry) null)) }
+        (λ s. ReplacesBytes text.now (string_bytes s.text) (tokens pointer.entry) null)) }
 {
+    let alloc = buffers.alloc;
     let Some(null) = value_text(alloc, &Value::Null)? else {
         return Ok(None);
     };
-    replace_at(alloc, buffers, text, pointer, &null)
+    replace_at(buffers, text, pointer, &null)
 }

@@ -13,7 +13,7 @@ use jsonptr_json_edits::check::is_edited;
 use jsonptr_json_edits::cut::{Cut, splice};
 use jsonptr_json_edits::edit::{Edit, EditAt};
 use jsonptr_json_search::selector::Selector;
-use std::alloc::{AllocError, Global};
+use std::alloc::AllocError;
 
 /// An edit, and the pointer of the value that it changes.
 #[derive(Clone, Copy, Debug)]
@@ -32,7 +32,6 @@ pub struct EditAtPointer<'a> {
 ///
 /// [`AllocError`] if an allocation fails.
 fn edit_by(
-    alloc: Global,
     buffers: &mut Buffers,
     cut: &Cut<'_>,
     at: EditAt<'_>,
@@ -43,6 +42,7 @@ fn edit_by(
     ensures spliced { IfOk result (λ new. IfSome new (λ s.
         string_bytes s ≡ cut.now.before.now ++ (piece.now ++ cut.now.after.now))) }
 {
+    let alloc = buffers.alloc;
     let new = splice(alloc, cut, piece)?;
     if is_edited(buffers, cut.text, new.as_str(), at)? {
         Ok(Some(new))
@@ -69,7 +69,6 @@ pub struct ValueEditAt<'a> {
 ///
 /// [`AllocError`] if an allocation fails.
 pub fn put_value(
-    alloc: Global,
     buffers: &mut Buffers,
     cut: &Cut<'_>,
     at: ValueEditAt<'_>,
@@ -79,6 +78,7 @@ pub fn put_value(
     ensures placed { IfOk result (λ new. IfSome new (λ s. SplicesAt (choices at.entry.path.now)
         cut.now.text.now (string_bytes s) cut.now.middle.now at.entry.piece.now)) }
 {
+    let alloc = buffers.alloc;
     let was = Target {
         selectors: at.path,
         positions: at.edit.positions,
@@ -110,7 +110,6 @@ pub fn put_value(
 ///
 /// [`AllocError`] if an allocation fails.
 pub fn is_edited_at(
-    alloc: Global,
     buffers: &mut Buffers,
     old: &str,
     new: &str,
@@ -119,6 +118,7 @@ pub fn is_edited_at(
     ensures { IfOk result (λ b. IsTrue b
         → ReachedInText old.now new.now (tokens at.now.pointer) (Makes at.now.edit.now)) }
 {
+    let alloc = buffers.alloc;
     let selectors = selectors_of(alloc, at.pointer)?;
     let by = EditAt {
         selectors: &selectors,
@@ -134,7 +134,6 @@ pub fn is_edited_at(
 ///
 /// [`AllocError`] if an allocation fails.
 pub fn edit_at(
-    alloc: Global,
     buffers: &mut Buffers,
     cut: &Cut<'_>,
     at: &EditAtPointer<'_>,
@@ -145,11 +144,12 @@ pub fn edit_at(
     ensures spliced { IfOk result (λ new. IfSome new (λ s.
         string_bytes s ≡ cut.now.before.now ++ (piece.now ++ cut.now.after.now))) }
 {
+    let alloc = buffers.alloc;
     let selectors = selectors_of(alloc, at.pointer)?;
     let by = EditAt {
         selectors: &selectors,
         positions: at.positions,
         edit: at.edit,
     };
-    edit_by(alloc, buffers, cut, by, piece)
+    edit_by(buffers, cut, by, piece)
 }

@@ -65,7 +65,7 @@ pub fn indent_text(
     ensures refused { IfErr result (IsIndentError text.now indent.now) }
 {
     let lines = format_text(alloc, &mut buffers.old, text, Format::Pretty)?;
-    match reindented(alloc, buffers, lines.as_str(), indent) {
+    match reindented(buffers, lines.as_str(), indent) {
         Ok(Some(new)) => Ok(new),
         // White space changes no token, so this arm is for the proof alone.
         Ok(None) if are_blank(indent.as_bytes()) => Ok(lines),
@@ -77,7 +77,6 @@ pub fn indent_text(
 /// Returns the text, which is indented by two spaces, with another indentation. Returns `None` if its
 /// tokens would change.
 fn reindented(
-    alloc: Global,
     buffers: &mut Buffers,
     lines: &str,
     indent: &str,
@@ -85,6 +84,7 @@ fn reindented(
     ensures { IfOk result (λ o. IfSome o
         (λ s. lexed (string_bytes s) ≡ lexed lines.now)) }
 {
+    let alloc = buffers.alloc;
     let new = with_indent(alloc, lines, indent)?;
     if is_value_of(buffers, new.as_str(), lines)? {
         Ok(Some(new))

@@ -11,6 +11,7 @@ ghost use Rattle.jsonptr_edit_in_text.specs.PrivateReaching.{ReachedInText, Memb
 use crate::edit::{EditAtPointer, edit_at};
 use crate::lead::{ChildAt, Front, is_child_after};
 use crate::place::Site;
+use crate::plan::{Added, Made, Plan};
 use jsonptr::Token;
 use jsonptr::index::Index;
 use jsonptr_in_text::selectors::selector_of;
@@ -33,19 +34,19 @@ use std::alloc::{AllocError, Global};
 ///
 /// [`AllocError`] if an allocation fails.
 pub fn add_member(
-    alloc: Global,
     buffers: &mut Buffers,
     site: &Site<'_>,
     token: &Token<'_>,
     printed: &ValueText,
-) -> Result<Option<String>, AllocError>
+) -> Result<Option<Made>, AllocError>
     ensures reached { IfOk result (λ new. IfSome new (λ s. ReachedInText site.now.text.now
-        (string_bytes s) (tokens site.now.pointer)
+        (string_bytes s.text) (tokens site.now.pointer)
         (MemberAdded token.now (string_bytes printed.now.flat)))) }
     ensures bytes { IfOk result (λ new. IfSome new (λ s. AddsByText site.now.text.now
-        (string_bytes s) (tokens site.now.pointer) token.now (string_bytes printed.now.flat))) }
+        (string_bytes s.text) (tokens site.now.pointer) token.now (string_bytes printed.now.flat))) }
 {
-    let Some(members) = children_of(alloc, buffers, site.text, site.place.value)? else {
+    let alloc = buffers.alloc;
+    let Some(members) = children_of(buffers, site.text, site.place.value)? else {
         return Ok(None);
     };
     let position = members.len();
@@ -66,7 +67,16 @@ pub fn add_member(
         token,
         position,
     };
-    put_child(alloc, buffers, site, new, &Edit::Add(child))
+    let Some(text) = put_child(buffers, site, new, &Edit::Add(child))? else {
+        return Ok(None);
+    };
+    let plan = Plan::Added(Added {
+        container: site.place.value,
+        children: members,
+        position,
+        piece,
+    });
+    Ok(Some(Made { text, plan }))
 }
 
 /// Adds an element at the end of the array at the site, if the token refers to the index after its
@@ -76,19 +86,19 @@ pub fn add_member(
 ///
 /// [`AllocError`] if an allocation fails.
 pub fn append(
-    alloc: Global,
     buffers: &mut Buffers,
     site: &Site<'_>,
     token: &Token<'_>,
     printed: &ValueText,
-) -> Result<Option<String>, AllocError>
+) -> Result<Option<Made>, AllocError>
     ensures reached { IfOk result (λ new. IfSome new (λ s. ReachedInText site.now.text.now
-        (string_bytes s) (tokens site.now.pointer)
+        (string_bytes s.text) (tokens site.now.pointer)
         (ElementAppended token.now (string_bytes printed.now.flat)))) }
     ensures bytes { IfOk result (λ new. IfSome new (λ s. AddsByText site.now.text.now
-        (string_bytes s) (tokens site.now.pointer) token.now (string_bytes printed.now.flat))) }
+        (string_bytes s.text) (tokens site.now.pointer) token.now (string_bytes printed.now.flat))) }
 {
-    let Some(elements) = children_of(alloc, buffers, site.text, site.place.value)? else {
+    let alloc = buffers.alloc;
+    let Some(elements) = children_of(buffers, site.text, site.place.value)? else {
         return Ok(None);
     };
     let position = elements.len();
@@ -110,7 +120,16 @@ pub fn append(
         token: &refers,
         position,
     };
-    put_child(alloc, buffers, site, new, &Edit::Append(child))
+    let Some(text) = put_child(buffers, site, new, &Edit::Append(child))? else {
+        return Ok(None);
+    };
+    let plan = Plan::Added(Added {
+        container: site.place.value,
+        children: elements,
+        position,
+        piece,
+    });
+    Ok(Some(Made { text, plan }))
 }
 
 /// Inserts an element into the array at the site, before the one at the index that the token is or
@@ -120,22 +139,22 @@ pub fn append(
 ///
 /// [`AllocError`] if an allocation fails.
 pub fn insert(
-    alloc: Global,
     buffers: &mut Buffers,
     site: &Site<'_>,
     token: &Token<'_>,
     printed: &ValueText,
-) -> Result<Option<String>, AllocError>
+) -> Result<Option<Made>, AllocError>
     ensures reached { IfOk result (λ new. IfSome new (λ s. ReachedInText site.now.text.now
-        (string_bytes s) (tokens site.now.pointer)
+        (string_bytes s.text) (tokens site.now.pointer)
         (ElementInserted token.now (string_bytes printed.now.flat)))) }
     ensures bytes { IfOk result (λ new. IfSome new (λ s. AddsByText site.now.text.now
-        (string_bytes s) (tokens site.now.pointer) token.now (string_bytes printed.now.flat))) }
+        (string_bytes s.text) (tokens site.now.pointer) token.now (string_bytes printed.now.flat))) }
 {
+    let alloc = buffers.alloc;
     let Ok(Index::Num(index)) = token.to_index() else {
         return Ok(None);
     };
-    let Some(elements) = children_of(alloc, buffers, site.text, site.place.value)? else {
+    let Some(elements) = children_of(buffers, site.text, site.place.value)? else {
         return Ok(None);
     };
     let child = child_of(alloc, token, index, printed)?;
@@ -152,7 +171,16 @@ pub fn insert(
         token,
         position: index,
     };
-    put_child(alloc, buffers, site, new, &Edit::Insert(child))
+    let Some(text) = put_child(buffers, site, new, &Edit::Insert(child))? else {
+        return Ok(None);
+    };
+    let plan = Plan::Added(Added {
+        container: site.place.value,
+        children: elements,
+        position: index,
+        piece,
+    });
+    Ok(Some(Made { text, plan }))
 }
 
 /// A child that is put into an array or an object.
@@ -173,7 +201,6 @@ struct NewChild<'p, 'k, 'v, 't> {
 /// Puts the text of a child into the array or object at the site, if that makes the edit, and if the pointer
 /// of the child leads to its value there.
 fn put_child(
-    alloc: Global,
     buffers: &mut Buffers,
     site: &Site<'_>,
     child: NewChild<'_, '_, '_, '_>,
@@ -201,7 +228,7 @@ fn put_child(
         positions: &site.place.positions,
         edit,
     };
-    let Some(new) = edit_at(alloc, buffers, &cut, &at, added)? else {
+    let Some(new) = edit_at(buffers, &cut, &at, added)? else {
         return Ok(None);
     };
     let text = Front {
@@ -214,7 +241,7 @@ fn put_child(
         above: &site.place.positions,
         position: child.position,
     };
-    if is_child_after(alloc, buffers, text, there, &parts)? {
+    if is_child_after(buffers, text, there, &parts)? {
         Ok(Some(new))
     } else {
         Ok(None)

@@ -75,7 +75,6 @@ pub struct ChildAt<'a, 't> {
 ///
 /// [`AllocError`] if an allocation fails.
 pub fn is_child_after(
-    alloc: Global,
     buffers: &mut Buffers,
     text: Front<'_>,
     child: ChildAt<'_, '_>,
@@ -87,6 +86,7 @@ pub fn is_child_after(
         (tokens child.entry.pointer ++ child.entry.token.now ∷ []) parts.now.value.now
         (parts.now.trail.now ++ after)) }
 {
+    let alloc = buffers.alloc;
     let Some(tail) = tail_at(text, parts) else {
         return Ok(false);
     };

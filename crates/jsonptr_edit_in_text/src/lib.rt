@@ -48,9 +48,11 @@ mod locate;
 mod one_line;
 mod operate;
 mod place;
+pub mod plan;
 mod remove;
 mod replace;
 mod rewrite;
+mod step;
 mod value_at;
 mod value_text;
 
@@ -71,4 +73,6 @@ pub use jsonptr_text_value::{RawOperation, RawValue, raw_operations, without_tex
 pub use jsonptr_value::ReadError;
 pub use locate::{LocateError, Located, locate_in_text, locate_in_text_with};
 pub use one_line::stays_one_line;
+pub use operate::passes;
 pub use rewrite::apply_and_print;
+pub use step::{Step, take_step};

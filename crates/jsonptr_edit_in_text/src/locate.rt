@@ -125,7 +125,7 @@ pub fn locate_in_text_with<'t>(
         l.before.now l.value.now l.after.now) }
     ensures refused { IfErr result (IsLocateError text.now (tokens pointer.entry)) }
 {
-    match cut_around(alloc, buffers, text, pointer) {
+    match cut_around(buffers, text, pointer) {
         Ok(Some(cut)) => Ok(Located {
             before: cut.before,
             value: cut.middle,
@@ -141,7 +141,6 @@ pub fn locate_in_text_with<'t>(
 
 /// Returns the text cut around the value, or `None` if it is not found.
 fn cut_around<'t>(
-    alloc: Global,
     buffers: &mut Buffers,
     text: &'t str,
     pointer: Pointer<'_>,
@@ -149,8 +148,9 @@ fn cut_around<'t>(
     ensures { IfOk result (λ found. IfSome found (λ c. IsLocated text.now (tokens pointer.entry)
         c.before.now c.middle.now c.after.now)) }
 {
+    let alloc = buffers.alloc;
     let selectors = selectors_of(alloc, pointer)?;
-    let Some(place) = place_at(alloc, buffers, text, &selectors)? else {
+    let Some(place) = place_at(buffers, text, &selectors)? else {
         return Ok(None);
     };
     let Some(cut) = cut_at(text, place.value.from, place.value.to) else {

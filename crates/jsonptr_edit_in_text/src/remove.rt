@@ -9,6 +9,7 @@ ghost use Rattle.jsonptr_edit_in_text.specs.EditInText.{DeletesInText};
 use crate::edit::{EditAtPointer, is_edited_at};
 use crate::lead::{ChildAt, Front, is_child_after};
 use crate::place::Site;
+use crate::plan::{Made, Plan, Removed};
 use jsonptr::Token;
 use jsonptr_in_text::selectors::selector_of;
 use jsonptr_json_edits::buffers::Buffers;
@@ -17,7 +18,7 @@ use jsonptr_json_edits::cut::{cut_at, splice};
 use jsonptr_json_edits::edit::{Child, Edit};
 use jsonptr_json_edits::layout::{Container, removal, slice};
 use jsonptr_json_edits::locate::{Extent, Span, children_of};
-use std::alloc::{AllocError, Global};
+use std::alloc::AllocError;
 
 /// Cuts out each child that the token selects of the value that the pointer resolves to. The site is that
 /// of the last one. Returns `None` if that is not possible.
@@ -26,38 +27,37 @@ use std::alloc::{AllocError, Global};
 ///
 /// [`AllocError`] if an allocation fails.
 pub fn cut_children(
-    alloc: Global,
     buffers: &mut Buffers,
     site: &Site<'_>,
     token: &Token<'_>,
-) -> Result<Option<String>, AllocError>
+) -> Result<Option<Made>, AllocError>
     ensures deleted { IfOk result (λ new. IfSome new (λ s.
-        DeletesInText site.now.text.now (tokens site.now.pointer ++ token.now ∷ []) (string_bytes s))) }
+        DeletesInText site.now.text.now (tokens site.now.pointer ++ token.now ∷ []) (string_bytes s.text))) }
     ensures bytes { IfOk result (λ new. IfSome new (λ s.
-        CutsChild site.now.text.now (string_bytes s) (tokens site.now.pointer) token.now)) }
+        CutsChild site.now.text.now (string_bytes s.text) (tokens site.now.pointer) token.now)) }
 {
     let span = site.place.container;
     let container = slice(site.text, span.from, span.to);
     if container.starts_with('{') {
-        cut_members(alloc, buffers, site, token)
+        cut_members(buffers, site, token)
     } else {
-        cut_element(alloc, buffers, site, token)
+        cut_element(buffers, site, token)
     }
 }
 
 /// Cuts out each member with the key of the token of the object that the pointer resolves to, the
 /// last one first.
 fn cut_members(
-    alloc: Global,
     buffers: &mut Buffers,
     site: &Site<'_>,
     token: &Token<'_>,
-) -> Result<Option<String>, AllocError>
+) -> Result<Option<Made>, AllocError>
     ensures deleted { IfOk result (λ new. IfSome new (λ s.
-        DeletesInText site.now.text.now (tokens site.now.pointer ++ token.now ∷ []) (string_bytes s))) }
+        DeletesInText site.now.text.now (tokens site.now.pointer ++ token.now ∷ []) (string_bytes s.text))) }
     ensures bytes { IfOk result (λ new. IfSome new (λ s.
-        CutsMembers site.now.text.now (string_bytes s) (tokens site.now.pointer) token.now)) }
+        CutsMembers site.now.text.now (string_bytes s.text) (tokens site.now.pointer) token.now)) }
 {
+    let alloc = buffers.alloc;
     let Some((position, above)) = site.place.positions.split_last() else {
         return Ok(None);
     };
@@ -67,7 +67,7 @@ fn cut_members(
     let selector = selector_of(alloc, token)?;
     let key = selector.key.as_str();
     let value = site.slice();
-    let removed = Removed {
+    let removed = CutOut {
         container: site.place.container,
         at: ChildAt {
             pointer: site.pointer,
@@ -78,7 +78,7 @@ fn cut_members(
         key: Some(key),
         value: Some(value),
     };
-    let Some(first) = cut_child(alloc, buffers, site.text, removed)? else {
+    let Some(first) = cut_child(buffers, site.text, removed)? else {
         return Ok(None);
     };
     let earlier = Earlier {
@@ -87,9 +87,10 @@ fn cut_members(
         above,
         key,
     };
-    let Some(new) = cut_in_turn(alloc, buffers, earlier, first)? else {
+    let Some(new) = cut_in_turn(buffers, earlier, first.text)? else {
         return Ok(None);
     };
+    let name = String::from_str(alloc, key)?;
     let edit = Edit::Add(Child {
         selector,
         position: *position,
@@ -100,8 +101,15 @@ fn cut_members(
         positions: above,
         edit: &edit,
     };
-    if is_edited_at(alloc, buffers, new.as_str(), site.text, &at)? {
-        Ok(Some(new))
+    if is_edited_at(buffers, new.as_str(), site.text, &at)? {
+        let plan = Plan::Removed(Removed {
+            container: site.place.container,
+            children: first.children,
+            position: *last,
+            key: Some(name),
+            others: site.place.duplicates.len().saturating_sub(1),
+        });
+        Ok(Some(Made { text: new, plan }))
     } else {
         Ok(None)
     }
@@ -109,21 +117,21 @@ fn cut_members(
 
 /// Cuts out the element that the token refers to, of the array that the pointer resolves to.
 fn cut_element(
-    alloc: Global,
     buffers: &mut Buffers,
     site: &Site<'_>,
     token: &Token<'_>,
-) -> Result<Option<String>, AllocError>
+) -> Result<Option<Made>, AllocError>
     ensures deleted { IfOk result (λ new. IfSome new (λ s.
-        DeletesInText site.now.text.now (tokens site.now.pointer ++ token.now ∷ []) (string_bytes s))) }
+        DeletesInText site.now.text.now (tokens site.now.pointer ++ token.now ∷ []) (string_bytes s.text))) }
     ensures bytes { IfOk result (λ new. IfSome new (λ s.
-        CutsElement site.now.text.now (string_bytes s) (tokens site.now.pointer) token.now)) }
+        CutsElement site.now.text.now (string_bytes s.text) (tokens site.now.pointer) token.now)) }
 {
+    let alloc = buffers.alloc;
     let Some((position, above)) = site.place.positions.split_last() else {
         return Ok(None);
     };
     let value = site.slice();
-    let removed = Removed {
+    let removed = CutOut {
         container: site.place.container,
         at: ChildAt {
             pointer: site.pointer,
@@ -134,7 +142,7 @@ fn cut_element(
         key: None,
         value: Some(value),
     };
-    let Some(new) = cut_child(alloc, buffers, site.text, removed)? else {
+    let Some(new) = cut_child(buffers, site.text, removed)? else {
         return Ok(None);
     };
     let edit = Edit::Insert(Child {
@@ -147,8 +155,16 @@ fn cut_element(
         positions: above,
         edit: &edit,
     };
-    if is_edited_at(alloc, buffers, new.as_str(), site.text, &at)? {
-        Ok(Some(new))
+    if is_edited_at(buffers, new.text.as_str(), site.text, &at)? {
+        let plan = Plan::Removed(Removed {
+            container: site.place.container,
+            children: new.children,
+            position: *position,
+            key: None,
+            others: 0,
+        });
+        let text = new.text;
+        Ok(Some(Made { text, plan }))
     } else {
         Ok(None)
     }
@@ -156,7 +172,7 @@ fn cut_element(
 
 /// A child that is cut out.
 #[derive(Clone, Copy, Debug)]
-struct Removed<'a, 't> {
+struct CutOut<'a, 't> {
     /// Where the array or object is that has it.
     container: Span,
     /// Which child it is.
@@ -182,7 +198,6 @@ struct Earlier<'a, 't> {
 
 /// Cuts out these members, the last one first. The one at the site was cut out of the text.
 fn cut_in_turn(
-    alloc: Global,
     buffers: &mut Buffers,
     members: Earlier<'_, '_>,
     text: String,
@@ -199,7 +214,7 @@ fn cut_in_turn(
     let mut current = text;
     'cuts: for position in earlier.iter().rev() {
         let old = current.as_str();
-        let removed = Removed {
+        let removed = CutOut {
             container,
             at: ChildAt {
                 pointer: site.pointer,
@@ -210,11 +225,11 @@ fn cut_in_turn(
             key: Some(members.key),
             value: None,
         };
-        let Some(next) = cut_child(alloc, buffers, old, removed)? else {
+        let Some(next) = cut_child(buffers, old, removed)? else {
             return Ok(None);
         };
-        container = shortened(container, old, next.as_str());
-        current = next;
+        container = shortened(container, old, next.text.as_str());
+        current = next.text;
     }
     Ok(Some(current))
 }
@@ -229,19 +244,29 @@ fn shortened(container: Span, old: &str, new: &str) -> Span {
     }
 }
 
+/// A text without a child that was cut out, and the children that its array or object had before. It owns
+/// both.
+#[derive(Debug, Drop)]
+struct Shorter {
+    /// The text.
+    text: String,
+    /// The children.
+    children: Vec<Extent>,
+}
+
 /// Cuts out the child.
 fn cut_child(
-    alloc: Global,
     buffers: &mut Buffers,
     text: &str,
-    removed: Removed<'_, '_>,
-) -> Result<Option<String>, AllocError>
+    removed: CutOut<'_, '_>,
+) -> Result<Option<Shorter>, AllocError>
     ensures { IfOk result (λ new. IfSome new (λ s. (v : Data)
         × IsReadAs (option_map (λ t. t.now) removed.entry.value) v
-        × CutsBytes text.now (string_bytes s) (tokens removed.entry.at.pointer ++ removed.entry.at.token.now ∷ [])
+        × CutsBytes text.now (string_bytes s.text) (tokens removed.entry.at.pointer ++ removed.entry.at.token.now ∷ [])
         (option_map (λ k. k.now) removed.entry.key) v)) }
 {
-    let Some(children) = children_of(alloc, buffers, text, removed.container)? else {
+    let alloc = buffers.alloc;
+    let Some(children) = children_of(buffers, text, removed.container)? else {
         return Ok(None);
     };
     let Some(extent) = children.get(removed.at.position) else {
@@ -266,10 +291,11 @@ fn cut_child(
         text,
         front: cut.before,
     };
-    if !is_child_after(alloc, buffers, place, removed.at, &parts)? {
+    if !is_child_after(buffers, place, removed.at, &parts)? {
         return Ok(None);
     }
-    Ok(Some(splice(alloc, &cut, "")?))
+    let text = splice(alloc, &cut, "")?;
+    Ok(Some(Shorter { text, children }))
 }
 
 /// Returns the extent in a text that begins at the offset.

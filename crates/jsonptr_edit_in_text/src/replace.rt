@@ -4,11 +4,13 @@ ghost use Rattle.serde_json.specs.Data.{Data};
 ghost use Rattle.serde_json.specs.Read.{read};
 ghost use Rattle.serde_json.specs.View.{view};
 ghost use Rattle.jsonptr.specs.Pointer.{tokens};
+ghost use Rattle.jsonptr_edit_in_text.specs.Steps.{ReplacesByText};
 ghost use Rattle.jsonptr_edit_in_text.specs.Bytes.{IsScalar};
-ghost use Rattle.jsonptr_edit_in_text.specs.PrivateReaching.{ReachedInText, ReplacesCut, IsValueEdit, Becomes, ScalarBecomes, ReplacesByText, ReplacesScalarByText};
+ghost use Rattle.jsonptr_edit_in_text.specs.PrivateReaching.{ReachedInText, ReplacesCut, IsValueEdit, Becomes, ScalarBecomes, ReplacesScalarByText};
 
 use crate::edit::{ValueEditAt, put_value};
 use crate::place::Site;
+use crate::plan::{Made, Plan, Replaced};
 use jsonptr::Pointer;
 use jsonptr_in_text::selectors::selectors_of;
 use jsonptr_json_edits::buffers::Buffers;
@@ -23,7 +25,7 @@ use jsonptr_json_search::find::find_in_text_with;
 use jsonptr_json_search::outcome::Outcome;
 use jsonptr_value::if_json;
 use serde_json::Value;
-use std::alloc::{AllocError, Global};
+use std::alloc::AllocError;
 
 /// Replaces the value that the pointer resolves to. Returns `None` if that is not possible.
 ///
@@ -31,19 +33,19 @@ use std::alloc::{AllocError, Global};
 ///
 /// [`AllocError`] if an allocation fails.
 pub fn replace_at(
-    alloc: Global,
     buffers: &mut Buffers,
     text: &str,
     pointer: Pointer<'_>,
     printed: &ValueText,
-) -> Result<Option<String>, AllocError>
-    ensures reached { IfOk result (λ new. IfSome new (λ s. ReachedInText text.now (string_bytes s)
+) -> Result<Option<Made>, AllocError>
+    ensures reached { IfOk result (λ new. IfSome new (λ s. ReachedInText text.now (string_bytes s.text)
         (tokens pointer.entry) (Becomes (string_bytes printed.now.flat)))) }
     ensures bytes { IfOk result (λ new. IfSome new (λ s. ReplacesByText text.now
-        (string_bytes s) (tokens pointer.entry) (string_bytes printed.now.flat))) }
+        (string_bytes s.text) (tokens pointer.entry) (string_bytes printed.now.flat))) }
 {
+    let alloc = buffers.alloc;
     let selectors = selectors_of(alloc, pointer)?;
-    let Some(place) = place_at(alloc, buffers, text, &selectors)? else {
+    let Some(place) = place_at(buffers, text, &selectors)? else {
         return Ok(None);
     };
     let site = Site {
@@ -51,7 +53,7 @@ pub fn replace_at(
         pointer,
         place: &place,
     };
-    replace(alloc, buffers, &site, printed)
+    replace(buffers, &site, printed)
 }
 
 /// Replaces the value at the site. Returns `None` if that is not possible.
@@ -60,20 +62,19 @@ pub fn replace_at(
 ///
 /// [`AllocError`] if an allocation fails.
 pub fn replace(
-    alloc: Global,
     buffers: &mut Buffers,
     site: &Site<'_>,
     printed: &ValueText,
-) -> Result<Option<String>, AllocError>
-    ensures reached { IfOk result (λ new. IfSome new (λ s. ReachedInText site.now.text.now (string_bytes s)
+) -> Result<Option<Made>, AllocError>
+    ensures reached { IfOk result (λ new. IfSome new (λ s. ReachedInText site.now.text.now (string_bytes s.text)
         (tokens site.now.pointer) (Becomes (string_bytes printed.now.flat)))) }
     ensures bytes { IfOk result (λ new. IfSome new (λ s. ReplacesByText site.now.text.now
-        (string_bytes s) (tokens site.now.pointer) (string_bytes printed.now.flat))) }
+        (string_bytes s.text) (tokens site.now.pointer) (string_bytes printed.now.flat))) }
 {
     let Some(cut) = cut_at(site.text, site.place.value.from, site.place.value.to) else {
         return Ok(None);
     };
-    replace_cut(alloc, buffers, &cut, site, printed)
+    replace_cut(buffers, &cut, site, printed)
 }
 
 /// Replaces the scalar at the site. Returns `None` if that is not possible.
@@ -82,23 +83,22 @@ pub fn replace(
 ///
 /// [`AllocError`] if an allocation fails.
 pub fn replace_scalar(
-    alloc: Global,
     buffers: &mut Buffers,
     site: &Site<'_>,
     printed: &ValueText,
-) -> Result<Option<String>, AllocError>
-    ensures reached { IfOk result (λ new. IfSome new (λ s. ReachedInText site.now.text.now (string_bytes s)
+) -> Result<Option<Made>, AllocError>
+    ensures reached { IfOk result (λ new. IfSome new (λ s. ReachedInText site.now.text.now (string_bytes s.text)
         (tokens site.now.pointer) (ScalarBecomes (string_bytes printed.now.flat)))) }
     ensures bytes { IfOk result (λ new. IfSome new (λ s. ReplacesScalarByText site.now.text.now
-        (string_bytes s) (tokens site.now.pointer) (string_bytes printed.now.flat))) }
+        (string_bytes s.text) (tokens site.now.pointer) (string_bytes printed.now.flat))) }
 {
     let Some(cut) = cut_at(site.text, site.place.value.from, site.place.value.to) else {
         return Ok(None);
     };
-    if !is_scalar_text(alloc, buffers, cut.middle)? {
+    if !is_scalar_text(buffers, cut.middle)? {
         return Ok(None);
     }
-    replace_cut(alloc, buffers, &cut, site, printed)
+    replace_cut(buffers, &cut, site, printed)
 }
 
 /// An edit that replaces a value, and what it puts into the text.
@@ -117,7 +117,6 @@ pub struct ValueEdit {
 ///
 /// [`AllocError`] if an allocation fails.
 pub fn value_edit(
-    alloc: Global,
     buffers: &mut Buffers,
     cut: &Cut<'_>,
     site: &Site<'_>,
@@ -126,6 +125,7 @@ pub fn value_edit(
     ensures { IfOk result (λ made. IfSome made
         (IsValueEdit cut.now.middle.now (string_bytes printed.now.flat))) }
 {
+    let alloc = buffers.alloc;
     if !is_trimmed(cut.middle) {
         return Ok(None);
     }
@@ -142,22 +142,22 @@ pub fn value_edit(
 
 /// Replaces the value at the site, which was cut out.
 fn replace_cut(
-    alloc: Global,
     buffers: &mut Buffers,
     cut: &Cut<'_>,
     site: &Site<'_>,
     printed: &ValueText,
-) -> Result<Option<String>, AllocError>
+) -> Result<Option<Made>, AllocError>
     ensures reached { IfOk result (λ new. IfSome new (λ s. ReachedInText cut.now.text.now
-        (string_bytes s) (tokens site.now.pointer)
+        (string_bytes s.text) (tokens site.now.pointer)
         (ReplacesCut cut.now.middle.now (string_bytes printed.now.flat)))) }
     ensures bytes { IfOk result (λ new. IfSome new (λ s. ReplacesByText cut.now.text.now
-        (string_bytes s) (tokens site.now.pointer) (string_bytes printed.now.flat))) }
+        (string_bytes s.text) (tokens site.now.pointer) (string_bytes printed.now.flat))) }
     ensures scalar { (d : Data) → read cut.now.middle.now ≡ Some d → IsScalar d → IfOk result
         (λ new. IfSome new (λ s. ReplacesScalarByText cut.now.text.now
-        (string_bytes s) (tokens site.now.pointer) (string_bytes printed.now.flat))) }
+        (string_bytes s.text) (tokens site.now.pointer) (string_bytes printed.now.flat))) }
 {
-    let Some(made) = value_edit(alloc, buffers, cut, site, printed)? else {
+    let alloc = buffers.alloc;
+    let Some(made) = value_edit(buffers, cut, site, printed)? else {
         return Ok(None);
     };
     let selectors = selectors_of(alloc, site.pointer)?;
@@ -171,13 +171,22 @@ fn replace_cut(
         path: &selectors,
         piece: made.piece.as_str(),
     };
-    put_value(alloc, buffers, cut, at)
+    let Some(text) = put_value(buffers, cut, at)? else {
+        return Ok(None);
+    };
+    let plan = Plan::Replaced(Replaced {
+        value: site.place.value,
+        depth: site.place.depth,
+        piece: made.piece,
+    });
+    Ok(Some(Made { text, plan }))
 }
 
 /// Returns whether the text is that of a scalar.
-fn is_scalar_text(alloc: Global, buffers: &mut Buffers, text: &str) -> Result<bool, AllocError>
+fn is_scalar_text(buffers: &mut Buffers, text: &str) -> Result<bool, AllocError>
     ensures { IfOk result (λ b. IsTrue b → (d : Data) × (read text.now ≡ Some d) × IsScalar d) }
 {
+    let alloc = buffers.alloc;
     if text.starts_with('{') || text.starts_with('[') {
         return Ok(false);
     }

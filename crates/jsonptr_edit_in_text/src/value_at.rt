@@ -10,7 +10,7 @@ use jsonptr_json_edits::layout::{slice, text_at};
 use jsonptr_json_edits::lead::{Route, leads_to};
 use jsonptr_json_edits::locate::place_at;
 use jsonptr_json_edits::value_text::ValueText;
-use std::alloc::{AllocError, Global};
+use std::alloc::AllocError;
 
 /// Returns the text of the value that the pointer resolves to, with its numbers and strings as they
 /// are there. Returns `None` if that is not possible.
@@ -19,7 +19,6 @@ use std::alloc::{AllocError, Global};
 ///
 /// [`AllocError`] if an allocation fails.
 pub fn value_at(
-    alloc: Global,
     buffers: &mut Buffers,
     text: &str,
     pointer: Pointer<'_>,
@@ -27,8 +26,9 @@ pub fn value_at(
     ensures { IfOk result (λ found. IfSome found
         (λ t. FindsText text.now (tokens pointer.entry) (string_bytes t.flat))) }
 {
+    let alloc = buffers.alloc;
     let selectors = selectors_of(alloc, pointer)?;
-    let Some(place) = place_at(alloc, buffers, text, &selectors)? else {
+    let Some(place) = place_at(buffers, text, &selectors)? else {
         return Ok(None);
     };
     let printed = text_at(alloc, text, place.value)?;

@@ -107,7 +107,13 @@ pub fn is_one_child(
 }
 
 /// Returns whether both texts are white space, except for at most one comma in one of them.
-fn have_one_comma(lead: &str, trail: &str) -> bool
+///
+/// # Examples
+///
+/// ```rust
+/// assert!(rt; have_one_comma(" ", ", ") && !have_one_comma(",", ","));
+/// ```
+pub fn have_one_comma(lead: &str, trail: &str) -> bool
     ensures { IsTrue result → HaveOneComma lead.now trail.now }
 {
     if is_blank(lead) {

@@ -54,15 +54,15 @@ pub struct Extent {
 /// ```rust
 /// let mut buffers = Buffers::new(alloc);
 /// let selectors = vec![in alloc; Selector { key: String::new(alloc), index: Some(1) }]?;
-/// let place = place_of(alloc, &mut buffers, "[1, 2.0]", &selectors)?.ok_or("a place")?;
+/// let place = place_of(&mut buffers, "[1, 2.0]", &selectors)?.ok_or("a place")?;
 /// assert_eq!(rt; (place.value.from, place.value.to, place.depth), (4, 7, 1));
 /// ```
 pub fn place_of(
-    alloc: Global,
     buffers: &mut Buffers,
     text: &str,
     selectors: &[Selector],
 ) -> Result<Option<Place>, AllocError> {
+    let alloc = buffers.alloc;
     if_json(locate(alloc, &mut buffers.old, text, selectors))
 }
 
@@ -73,12 +73,11 @@ pub fn place_of(
 ///
 /// [`AllocError`] if an allocation fails.
 pub fn place_at(
-    alloc: Global,
     buffers: &mut Buffers,
     text: &str,
     selectors: &[Selector],
 ) -> Result<Option<Place>, AllocError> {
-    let Some(place) = place_of(alloc, buffers, text, selectors)? else {
+    let Some(place) = place_of(buffers, text, selectors)? else {
         return Ok(None);
     };
     if place.depth == selectors.len() {
@@ -99,15 +98,15 @@ pub fn place_at(
 /// ```rust
 /// let mut buffers = Buffers::new(alloc);
 /// let whole = Span { from: 0, to: 8 };
-/// let children = children_of(alloc, &mut buffers, r#"{"a": 1}"#, whole)?.ok_or("an object")?;
+/// let children = children_of(&mut buffers, r#"{"a": 1}"#, whole)?.ok_or("an object")?;
 /// assert_eq!(rt; (children[0].child.from, children[0].child.to, children[0].value), (1, 7, 6));
 /// ```
 pub fn children_of(
-    alloc: Global,
     buffers: &mut Buffers,
     text: &str,
     span: Span,
 ) -> Result<Option<Vec<Extent>>, AllocError> {
+    let alloc = buffers.alloc;
     if_json(children(alloc, &mut buffers.old, text, span))
 }
 

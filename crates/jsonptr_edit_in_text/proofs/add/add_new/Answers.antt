@@ -1,7 +1,8 @@
 use Rattle.std.proofs.Common.{[], ◌∷◌, ◌++◌, string_bytes}
 use Rattle.jsonptr.specs.Pointer.{tokens}
+use Rattle.jsonptr_edit_in_text.specs.Steps.{AddsInText}
 use Rattle.jsonptr_edit_in_text.specs.PrivateReaching.{ReachedInText, MemberAdded, ElementAppended}
-use Rattle.jsonptr_edit_in_text.specs.PrivateOperating.{AddsInText, ElementInserted}
+use Rattle.jsonptr_edit_in_text.specs.PrivateOperating.{ElementInserted}
 use Rattle.jsonptr_edit_in_text.proofs.EditLemmas.{if_new}
 use Rattle.jsonptr_edit_in_text.proofs.OperatingLemmas.{adds_member, adds_last, adds_element}
 use Rattle.jsonptr_edit_in_text.proofs.add.add_new.Goals as goal
@@ -13,9 +14,9 @@ returns-then-starts_with-clause-added c =
     let x = c.args.token.now in
     let flat = string_bytes c.args.printed.now.flat in
     if_new c.add_member.result
-    (λ s. ReachedInText old (string_bytes s) front (MemberAdded x flat))
-    (λ s. AddsInText old (front ++ x ∷ []) flat (string_bytes s))
-    (λ s h. adds_member old (string_bytes s) front x flat h)
+    (λ s. ReachedInText old (string_bytes s.text) front (MemberAdded x flat))
+    (λ s. AddsInText old (front ++ x ∷ []) flat (string_bytes s.text))
+    (λ s h. adds_member old (string_bytes s.text) front x flat h)
     c.add_member.ensures.reached
 
 pub returns-then-is_next-clause-added : goal.returns-then-is_next-clause-added
@@ -25,9 +26,9 @@ returns-then-is_next-clause-added c =
     let x = c.args.token.now in
     let flat = string_bytes c.args.printed.now.flat in
     if_new c.append.result
-    (λ s. ReachedInText old (string_bytes s) front (ElementAppended x flat))
-    (λ s. AddsInText old (front ++ x ∷ []) flat (string_bytes s))
-    (λ s h. adds_last old (string_bytes s) front x flat h)
+    (λ s. ReachedInText old (string_bytes s.text) front (ElementAppended x flat))
+    (λ s. AddsInText old (front ++ x ∷ []) flat (string_bytes s.text))
+    (λ s h. adds_last old (string_bytes s.text) front x flat h)
     c.append.ensures.reached
 
 pub returns-else-is_next-clause-added : goal.returns-else-is_next-clause-added
@@ -37,7 +38,7 @@ returns-else-is_next-clause-added c =
     let x = c.args.token.now in
     let flat = string_bytes c.args.printed.now.flat in
     if_new c.insert.result
-    (λ s. ReachedInText old (string_bytes s) front (ElementInserted x flat))
-    (λ s. AddsInText old (front ++ x ∷ []) flat (string_bytes s))
-    (λ s h. adds_element old (string_bytes s) front x flat h)
+    (λ s. ReachedInText old (string_bytes s.text) front (ElementInserted x flat))
+    (λ s. AddsInText old (front ++ x ∷ []) flat (string_bytes s.text))
+    (λ s h. adds_element old (string_bytes s.text) front x flat h)
     c.insert.ensures.reached

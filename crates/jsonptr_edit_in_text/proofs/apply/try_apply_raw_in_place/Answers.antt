@@ -1,8 +1,8 @@
 use Rattle.std.proofs.Common.{◌∷◌, List, Option, String, IfOk, IfSome, string_bytes, sym, subst}
 use Rattle.std.specs.declared.alloc.Global.{Global}
-use Rattle.jsonptr.specs.Text.{Text}
-use Rattle.jsonptr_edit_in_text.specs.PatchInText.{PatchesInText}
 use Rattle.jsonptr_edit_in_text.specs.PrivateOperating.{OperatesInText}
+use Rattle.jsonptr_edit_in_text.specs.declared.plan.Made.{Made}
+use Rattle.jsonptr_edit_in_text.specs.PatchInText.{PatchesInText}
 use Rattle.jsonptr_text_value.specs.Operations.{operations_in}
 use Rattle.jsonptr_edit_in_text.specs.RawPatching.{GivenBytes, RawPatchBytes}
 use Rattle.jsonptr_text_value.specs.declared.raw_operation.RawOperation.{RawOperation}
@@ -16,9 +16,8 @@ returns-clause-applied c =
     let old = c.args.text.now in
     let o = c.in-Some.first.now in
     let os = c.in-Some.rest.now in
-    let mid = string_bytes c.in-Some-2.next in
-    let first = subst (λ (t : Text). OperatesInText t o.operation mid) c.in_ok-start.ensures.ok
-    (subst (λ (n : Option (String Global)). IfSome n (λ s. OperatesInText (string_bytes c.in_ok-start.start) o.operation (string_bytes s))) c.in-Some-2.is c.in_ok-next.ensures.applied) in
+    let mid = string_bytes c.in-Some-2.next.text in
+    let first = subst (λ (n : Option Made). IfSome n (λ s. OperatesInText old o.operation (string_bytes s.text))) c.in-Some-2.is c.in_ok-next.ensures.applied in
     subst (λ (all : List RawOperation). IfOk r (λ n. IfSome n (λ s. PatchesInText old (operations_in all) (string_bytes s)))) (sym c.in-Some.ensures.cases.0)
     (if_new r
     (λ s. PatchesInText mid (operations_in os) (string_bytes s))
@@ -32,9 +31,8 @@ returns-clause-bytes c =
     let old = c.args.text.now in
     let o = c.in-Some.first.now in
     let os = c.in-Some.rest.now in
-    let mid = string_bytes c.in-Some-2.next in
-    let first = subst (λ (t : Text). GivenBytes t o.operation o.raw mid) c.in_ok-start.ensures.ok
-    (subst (λ (n : Option (String Global)). IfSome n (λ s. GivenBytes (string_bytes c.in_ok-start.start) o.operation o.raw (string_bytes s))) c.in-Some-2.is c.in_ok-next.ensures.bytes) in
+    let mid = string_bytes c.in-Some-2.next.text in
+    let first = subst (λ (n : Option Made). IfSome n (λ s. GivenBytes old o.operation o.raw (string_bytes s.text))) c.in-Some-2.is c.in_ok-next.ensures.bytes in
     subst (λ (all : List RawOperation). IfOk r (λ n. IfSome n (λ s. RawPatchBytes old all (string_bytes s)))) (sym c.in-Some.ensures.cases.0)
     (if_new r
     (λ s. RawPatchBytes mid os (string_bytes s))

@@ -22,9 +22,9 @@ returns-then-starts_with-clause-assigned c =
     let x = c.args.missing.now.token.now in
     let after = tokens c.args.missing.now.after in
     if_new c.add_member.result
-    (λ s. ReachedInText c.args.site.now.text.now (string_bytes s) front (MemberAdded x flat))
-    (λ s. AssignsInText c.args.site.now.text.now (front ++ x ∷ after) (nodes (value_of_raw c.args.raw.now)) (string_bytes s))
-    (λ s h. assigns_member c.args.site.now.text.now (string_bytes s) (front ++ x ∷ after) front x after e.0 (nodes (value_of_raw c.args.raw.now)) refl e.2 (of_member c.args.site.now.text.now (string_bytes s) front x flat e.0 e.1 h))
+    (λ s. ReachedInText c.args.site.now.text.now (string_bytes s.text) front (MemberAdded x flat))
+    (λ s. AssignsInText c.args.site.now.text.now (front ++ x ∷ after) (nodes (value_of_raw c.args.raw.now)) (string_bytes s.text))
+    (λ s h. assigns_member c.args.site.now.text.now (string_bytes s.text) (front ++ x ∷ after) front x after e.0 (nodes (value_of_raw c.args.raw.now)) refl e.2 (of_member c.args.site.now.text.now (string_bytes s.text) front x flat e.0 e.1 h))
     c.add_member.ensures.reached
 
 pub returns-then-starts_with-clause-bytes : goal.returns-then-starts_with-clause-bytes
@@ -38,9 +38,9 @@ returns-then-starts_with-clause-bytes c =
     let e = subst (λ (o : Option ValueText). IfSome o (IsExpanded after (nodes (value_of_raw raw)))) c.in-Some.is c.in_ok-printed.ensures.value in
     let same = subst (λ (o : Option ValueText). IfSome o (λ t. lexed (string_bytes t.flat) ≡ wrapped after (lexed (string_bytes raw.printed.flat)))) c.in-Some.is c.in_ok-printed.ensures.same in
     if_new c.add_member.result
-    (λ s. AddsByText old (string_bytes s) front x flat)
-    (λ s. AddsWith raw old (string_bytes s) front x after)
-    (λ s h. adds_expanded_bytes old (string_bytes s) front x after flat raw e.0 e.1 e.2 same h)
+    (λ s. AddsByText old (string_bytes s.text) front x flat)
+    (λ s. AddsWith raw old (string_bytes s.text) front x after)
+    (λ s h. adds_expanded_bytes old (string_bytes s.text) front x after flat raw e.0 e.1 e.2 same h)
     c.add_member.ensures.bytes
 
 pub returns-clause-assigned : goal.returns-clause-assigned
@@ -51,9 +51,9 @@ returns-clause-assigned c =
     let x = c.args.missing.now.token.now in
     let after = tokens c.args.missing.now.after in
     if_new c.append.result
-    (λ s. ReachedInText c.args.site.now.text.now (string_bytes s) front (ElementAppended x flat))
-    (λ s. AssignsInText c.args.site.now.text.now (front ++ x ∷ after) (nodes (value_of_raw c.args.raw.now)) (string_bytes s))
-    (λ s h. assigns_end c.args.site.now.text.now (string_bytes s) (front ++ x ∷ after) front x after e.0 (nodes (value_of_raw c.args.raw.now)) refl e.2 (of_element c.args.site.now.text.now (string_bytes s) front x flat e.0 e.1 h))
+    (λ s. ReachedInText c.args.site.now.text.now (string_bytes s.text) front (ElementAppended x flat))
+    (λ s. AssignsInText c.args.site.now.text.now (front ++ x ∷ after) (nodes (value_of_raw c.args.raw.now)) (string_bytes s.text))
+    (λ s h. assigns_end c.args.site.now.text.now (string_bytes s.text) (front ++ x ∷ after) front x after e.0 (nodes (value_of_raw c.args.raw.now)) refl e.2 (of_element c.args.site.now.text.now (string_bytes s.text) front x flat e.0 e.1 h))
     c.append.ensures.reached
 
 pub returns-clause-bytes : goal.returns-clause-bytes
@@ -67,7 +67,7 @@ returns-clause-bytes c =
     let e = subst (λ (o : Option ValueText). IfSome o (IsExpanded after (nodes (value_of_raw raw)))) c.in-Some.is c.in_ok-printed.ensures.value in
     let same = subst (λ (o : Option ValueText). IfSome o (λ t. lexed (string_bytes t.flat) ≡ wrapped after (lexed (string_bytes raw.printed.flat)))) c.in-Some.is c.in_ok-printed.ensures.same in
     if_new c.append.result
-    (λ s. AddsByText old (string_bytes s) front x flat)
-    (λ s. AddsWith raw old (string_bytes s) front x after)
-    (λ s h. adds_expanded_bytes old (string_bytes s) front x after flat raw e.0 e.1 e.2 same h)
+    (λ s. AddsByText old (string_bytes s.text) front x flat)
+    (λ s. AddsWith raw old (string_bytes s.text) front x after)
+    (λ s h. adds_expanded_bytes old (string_bytes s.text) front x after flat raw e.0 e.1 e.2 same h)
     c.append.ensures.bytes

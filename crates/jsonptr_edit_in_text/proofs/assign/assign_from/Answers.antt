@@ -11,13 +11,13 @@ use Rattle.jsonptr_edit_in_text.proofs.assign.assign_from.Goals as goal
 
 pub returns-clause-assigned : goal.returns-clause-assigned
 returns-clause-assigned c =
-    subst (λ (ts : List Text). IfOk c.assign_scalar.result (λ o. IfSome o (λ s. AssignsInText c.args.site.now.text.now (tokens c.args.site.now.pointer ++ ts) (nodes (value_of_raw c.args.raw.now)) (string_bytes s)))) (sym c.in-Some.ensures)
+    subst (λ (ts : List Text). IfOk c.assign_scalar.result (λ o. IfSome o (λ s. AssignsInText c.args.site.now.text.now (tokens c.args.site.now.pointer ++ ts) (nodes (value_of_raw c.args.raw.now)) (string_bytes s.text)))) (sym c.in-Some.ensures)
     (c.assign_scalar.ensures.assigned c.in-Some.token (tokens c.in-Some.after) c.in-Some.ensures)
 
 pub returns-in_default-clause-assigned : goal.returns-in_default-clause-assigned
 returns-in_default-clause-assigned c =
     let root : tokens c.args.rest ≡ [] = grind arith in
-    subst (λ (ts : List Text). IfOk c.assign_there.result (λ o. IfSome o (λ s. AssignsInText c.args.site.now.text.now ts (nodes (value_of_raw c.args.raw.now)) (string_bytes s))))
+    subst (λ (ts : List Text). IfOk c.assign_there.result (λ o. IfSome o (λ s. AssignsInText c.args.site.now.text.now ts (nodes (value_of_raw c.args.raw.now)) (string_bytes s.text))))
     (sym (ap (λ (ts : List Text). tokens c.args.site.now.pointer ++ ts) root ∙ append-nil (tokens c.args.site.now.pointer)))
     c.assign_there.ensures.assigned
 
@@ -29,8 +29,8 @@ returns-then-starts_with-2-clause-bytes c =
     let after = tokens c.in-Some.after in
     let raw = c.args.raw.now in
     if_new c.assign_child.result
-    (λ s. AddsWith raw old (string_bytes s) front x after)
-    (λ s. AssignsGiven old (front ++ tokens c.args.rest) raw (string_bytes s))
+    (λ s. AddsWith raw old (string_bytes s.text) front x after)
+    (λ s. AssignsGiven old (front ++ tokens c.args.rest) raw (string_bytes s.text))
     (λ s h. (inr (front, x, after, ap (λ (ts : List Text). front ++ ts) c.in-Some.ensures, inr h.0), h.1))
     c.assign_child.ensures.bytes
 
@@ -42,9 +42,9 @@ returns-clause-bytes c =
     let after = tokens c.in-Some.after in
     let raw = c.args.raw.now in
     if_new c.assign_scalar.result
-    (λ s. ExpandsWith raw old (string_bytes s) front (tokens c.args.rest))
-    (λ s. AssignsGiven old (front ++ tokens c.args.rest) raw (string_bytes s))
-    (λ s h. let k = subst (λ (ts : List Text). ExpandsWith raw old (string_bytes s) front ts) c.in-Some.ensures h in
+    (λ s. ExpandsWith raw old (string_bytes s.text) front (tokens c.args.rest))
+    (λ s. AssignsGiven old (front ++ tokens c.args.rest) raw (string_bytes s.text))
+    (λ s h. let k = subst (λ (ts : List Text). ExpandsWith raw old (string_bytes s.text) front ts) c.in-Some.ensures h in
     (inr (front, x, after, ap (λ (ts : List Text). front ++ ts) c.in-Some.ensures, inl k.0), k.1))
     c.assign_scalar.ensures.bytes
 
@@ -56,7 +56,7 @@ returns-in_default-clause-bytes c =
     let root : tokens c.args.rest ≡ [] = grind arith in
     let all : front ++ tokens c.args.rest ≡ front = ap (λ (ts : List Text). front ++ ts) root ∙ append-nil front in
     if_new c.assign_there.result
-    (λ s. ReplacesWith raw old (string_bytes s) front)
-    (λ s. AssignsGiven old (front ++ tokens c.args.rest) raw (string_bytes s))
-    (λ s h. let k = subst (λ (ts : List Text). ReplacesWith raw old (string_bytes s) ts) (sym all) h in (inl k.0, k.1))
+    (λ s. ReplacesWith raw old (string_bytes s.text) front)
+    (λ s. AssignsGiven old (front ++ tokens c.args.rest) raw (string_bytes s.text))
+    (λ s h. let k = subst (λ (ts : List Text). ReplacesWith raw old (string_bytes s.text) ts) (sym all) h in (inl k.0, k.1))
     c.assign_there.ensures.bytes

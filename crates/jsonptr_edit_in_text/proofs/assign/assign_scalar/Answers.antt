@@ -22,9 +22,9 @@ returns-clause-assigned c = λ x after rest.
     let e = subst (λ (o : Option ValueText). IfSome o (IsExpanded (tokens c.args.rest) (nodes (value_of_raw c.args.raw.now)))) c.in-Some.is c.in_ok-printed.ensures.value in
     let front = tokens c.args.site.now.pointer in
     if_new c.replace_scalar.result
-    (λ s. ReachedInText c.args.site.now.text.now (string_bytes s) front (ScalarBecomes flat))
-    (λ s. AssignsInText c.args.site.now.text.now (front ++ x ∷ after) (nodes (value_of_raw c.args.raw.now)) (string_bytes s))
-    (λ s h. assigns_scalar c.args.site.now.text.now (string_bytes s) (front ++ x ∷ after) front x after e.0 (nodes (value_of_raw c.args.raw.now)) refl (e.2 ∙ ap (λ (ts : List Text). expanded ts (nodes (value_of_raw c.args.raw.now))) rest) (of_scalar c.args.site.now.text.now (string_bytes s) front flat e.0 e.1 h))
+    (λ s. ReachedInText c.args.site.now.text.now (string_bytes s.text) front (ScalarBecomes flat))
+    (λ s. AssignsInText c.args.site.now.text.now (front ++ x ∷ after) (nodes (value_of_raw c.args.raw.now)) (string_bytes s.text))
+    (λ s h. assigns_scalar c.args.site.now.text.now (string_bytes s.text) (front ++ x ∷ after) front x after e.0 (nodes (value_of_raw c.args.raw.now)) refl (e.2 ∙ ap (λ (ts : List Text). expanded ts (nodes (value_of_raw c.args.raw.now))) rest) (of_scalar c.args.site.now.text.now (string_bytes s.text) front flat e.0 e.1 h))
     c.replace_scalar.ensures.reached
 
 pub returns-clause-bytes : goal.returns-clause-bytes
@@ -37,7 +37,7 @@ returns-clause-bytes c =
     let same = subst (λ (o : Option ValueText). IfSome o (λ t. lexed (string_bytes t.flat) ≡ wrapped more (lexed (string_bytes raw.printed.flat)))) c.in-Some.is c.in_ok-printed.ensures.same in
     let front = tokens c.args.site.now.pointer in
     if_new c.replace_scalar.result
-    (λ s. ReplacesScalarByText old (string_bytes s) front flat)
-    (λ s. ExpandsWith raw old (string_bytes s) front more)
-    (λ s h. expands old (string_bytes s) front more flat raw e.0 e.1 e.2 same h)
+    (λ s. ReplacesScalarByText old (string_bytes s.text) front flat)
+    (λ s. ExpandsWith raw old (string_bytes s.text) front more)
+    (λ s h. expands old (string_bytes s.text) front more flat raw e.0 e.1 e.2 same h)
     c.replace_scalar.ensures.bytes

@@ -5,6 +5,6 @@ use Rattle.jsonptr_edit_in_text.proofs.assign.try_assign.Goals as goal
 
 pub returns-clause-bytes : goal.returns-clause-bytes
 returns-clause-bytes c =
-    subst (λ (ts : List Text). IfOk c.assign_from.result (λ o. IfSome o (λ s. AssignsGiven c.args.text.now ts c.args.raw.now (string_bytes s))))
+    subst (λ (ts : List Text). IfOk c.assign_from.result (λ o. IfSome o (λ s. AssignsGiven c.args.text.now ts c.args.raw.now (string_bytes s.text))))
     (sym c.in-Some-split_at.ensures.0)
     c.assign_from.ensures.bytes

@@ -6,8 +6,9 @@ use Rattle.jsonptr.specs.Pointer.{tokens}
 use Rattle.jsonptr.specs.Json.{nodes}
 use Rattle.jsonptr_json_edits.specs.declared.value_text.ValueText.{ValueText}
 use Rattle.jsonptr_text_value.specs.Raw.{value_of_raw}
+use Rattle.jsonptr_edit_in_text.specs.Steps.{AddsInText, AddsAtByText}
 use Rattle.jsonptr_edit_in_text.specs.PatchInText.{AddsAtBytes}
-use Rattle.jsonptr_edit_in_text.specs.PrivateOperating.{AddsInText, AddsValueInText, AddsAtByText}
+use Rattle.jsonptr_edit_in_text.specs.PrivateOperating.{AddsValueInText}
 use Rattle.jsonptr_edit_in_text.specs.RawPatching.{AddsGiven}
 use Rattle.jsonptr_edit_in_text.proofs.BytesLemmas.{adds_given, adds_value_at}
 use Rattle.jsonptr_edit_in_text.proofs.EditLemmas.{if_new}
@@ -24,9 +25,9 @@ returns-in-Some-clause-added c =
     let raw = c.in-Some.raw in
     let is = text_is value c.args.given.raw.now raw c.in-Some.is c.requires in
     if_new c.add_at.result
-    (λ s. AddsInText old ts (string_bytes raw.printed.flat) (string_bytes s))
-    (λ s. AddsValueInText old ts (nodes (view value)) (string_bytes s))
-    (λ s h. adds_value old (string_bytes s) ts (string_bytes raw.printed.flat) (view value) (raw_reads raw ∙ ap (λ (d : Data). Some d) is) h)
+    (λ s. AddsInText old ts (string_bytes raw.printed.flat) (string_bytes s.text))
+    (λ s. AddsValueInText old ts (nodes (view value)) (string_bytes s.text))
+    (λ s h. adds_value old (string_bytes s.text) ts (string_bytes raw.printed.flat) (view value) (raw_reads raw ∙ ap (λ (d : Data). Some d) is) h)
     c.add_at.ensures.added
 
 pub returns-in-Some-clause-bytes : goal.returns-in-Some-clause-bytes
@@ -37,9 +38,9 @@ returns-in-Some-clause-bytes c =
     let raw = c.in-Some.raw in
     adds_some r old ts c.args.given.value.now c.args.given.raw.now raw c.in-Some.is c.requires
     (if_new r
-    (λ s. AddsAtByText old ts (string_bytes raw.printed.flat) (string_bytes s))
-    (λ s. AddsGiven old ts (value_of_raw raw) (Some raw) (string_bytes s))
-    (λ s h. adds_given old (string_bytes s) ts raw h)
+    (λ s. AddsAtByText old ts (string_bytes raw.printed.flat) (string_bytes s.text))
+    (λ s. AddsGiven old ts (value_of_raw raw) (Some raw) (string_bytes s.text))
+    (λ s h. adds_given old (string_bytes s.text) ts raw h)
     c.add_at.ensures.bytes)
 
 pub returns-in-Some-2-clause-bytes : goal.returns-in-Some-2-clause-bytes
@@ -52,7 +53,7 @@ returns-in-Some-2-clause-bytes c =
     let reads = subst (λ (o : Option ValueText). IfSome o (λ t. read (string_bytes t.flat) ≡ Some (view value))) c.in-Some-2.is c.in_ok-printed-in-None.ensures in
     adds_none r old ts value c.args.given.raw.now c.in-None.is
     (if_new r
-    (λ s. AddsAtByText old ts flat (string_bytes s))
-    (λ s. AddsAtBytes old ts (view value) (string_bytes s))
-    (λ s h. adds_value_at old (string_bytes s) ts flat (view value) reads h)
+    (λ s. AddsAtByText old ts flat (string_bytes s.text))
+    (λ s. AddsAtBytes old ts (view value) (string_bytes s.text))
+    (λ s h. adds_value_at old (string_bytes s.text) ts flat (view value) reads h)
     c.add_at-in-None.ensures.bytes)

@@ -1,4 +1,4 @@
-use Rattle.std.proofs.Common.{List, IfOk, IfSome, string_bytes, refl, sym, subst}
+use Rattle.std.proofs.Common.{List, IfOk, IfSome, string_bytes, sym, subst}
 use Rattle.serde_json.specs.View.{view}
 use Rattle.jsonptr.specs.Text.{Text}
 use Rattle.jsonptr.specs.Pointer.{tokens}
@@ -9,10 +9,10 @@ use Rattle.jsonptr_edit_in_text.specs.Bytes.{DeletesBytes}
 use Rattle.jsonptr_edit_in_text.specs.EditInText.{DeletesInText}
 use Rattle.jsonptr_text_value.specs.Fitting.{HasFittingText}
 use Rattle.jsonptr_edit_in_text.specs.PatchInText.{MovesBytes, CopiesBytes}
-use Rattle.jsonptr_edit_in_text.specs.PrivateOperating.{OperatesInText, AddsValueInText, PutsInText}
+use Rattle.jsonptr_edit_in_text.specs.PrivateOperating.{AddsValueInText, PutsInText, OperatesInText}
 use Rattle.jsonptr_edit_in_text.specs.RawPatching.{AddsGiven, ReplacesGiven, GivenBytes}
 use Rattle.jsonptr_edit_in_text.proofs.EditLemmas.{if_new}
-use Rattle.jsonptr_edit_in_text.proofs.OperatingLemmas.{removes, tests}
+use Rattle.jsonptr_edit_in_text.proofs.OperatingLemmas.{removes}
 use Rattle.jsonptr_edit_in_text.proofs.operate.operate.Goals as goal
 
 pub add_given-requires : goal.add_given-requires
@@ -24,88 +24,72 @@ replace_given-requires c = subst (λ (o : Operation). HasFittingText o c.args.op
 pub returns-in-Add-clause-applied : goal.returns-in-Add-clause-applied
 returns-in-Add-clause-applied c =
     let r = c.add_given.result in
-    let old = c.as_str-old.result.now in
+    let old = c.args.text.now in
     let v = nodes (view c.in-Add.value) in
-    subst (λ (o : Operation). IfOk r (λ n. IfSome n (λ s. OperatesInText (string_bytes c.args.text) o (string_bytes s)))) (sym c.in-Add.is)
-    (subst (λ (t : Text). IfOk r (λ n. IfSome n (λ s. AddsValueInText t c.in-Add.path v (string_bytes s)))) c.as_str-old.ensures.value
-    (subst (λ (ts : List Text). IfOk r (λ n. IfSome n (λ s. AddsValueInText old ts v (string_bytes s)))) c.as_ptr.ensures.tokens c.add_given.ensures.added))
+    subst (λ (o : Operation). IfOk r (λ n. IfSome n (λ s. OperatesInText c.args.text.now o (string_bytes s.text)))) (sym c.in-Add.is)
+    (subst (λ (ts : List Text). IfOk r (λ n. IfSome n (λ s. AddsValueInText old ts v (string_bytes s.text)))) c.as_ptr.ensures.tokens c.add_given.ensures.added)
 
 pub returns-in-Remove-clause-applied : goal.returns-in-Remove-clause-applied
 returns-in-Remove-clause-applied c =
     let r = c.cut_out.result in
-    let old = c.as_str-old.result.now in
-    subst (λ (o : Operation). IfOk r (λ n. IfSome n (λ s. OperatesInText (string_bytes c.args.text) o (string_bytes s)))) (sym c.in-Remove.is)
+    let old = c.args.text.now in
+    subst (λ (o : Operation). IfOk r (λ n. IfSome n (λ s. OperatesInText c.args.text.now o (string_bytes s.text)))) (sym c.in-Remove.is)
     (if_new r
-    (λ s. DeletesInText (string_bytes c.args.text) c.in-Remove.path (string_bytes s))
-    (λ s. OperatesInText (string_bytes c.args.text) (Remove c.in-Remove.path) (string_bytes s))
-    (λ s h. removes (string_bytes c.args.text) (string_bytes s) c.in-Remove.path h)
-    (subst (λ (t : Text). IfOk r (λ n. IfSome n (λ s. DeletesInText t c.in-Remove.path (string_bytes s)))) c.as_str-old.ensures.value
-    (subst (λ (ts : List Text). IfOk r (λ n. IfSome n (λ s. DeletesInText old ts (string_bytes s)))) c.as_ptr-in-Remove.ensures.tokens c.cut_out.ensures.deleted)))
+    (λ s. DeletesInText c.args.text.now c.in-Remove.path (string_bytes s.text))
+    (λ s. OperatesInText c.args.text.now (Remove c.in-Remove.path) (string_bytes s.text))
+    (λ s h. removes c.args.text.now (string_bytes s.text) c.in-Remove.path h)
+    (subst (λ (ts : List Text). IfOk r (λ n. IfSome n (λ s. DeletesInText old ts (string_bytes s.text)))) c.as_ptr-in-Remove.ensures.tokens c.cut_out.ensures.deleted))
 
 pub returns-in-Replace-clause-applied : goal.returns-in-Replace-clause-applied
 returns-in-Replace-clause-applied c =
     let r = c.replace_given.result in
-    let old = c.as_str-old.result.now in
+    let old = c.args.text.now in
     let v = nodes (view c.in-Replace.value) in
-    subst (λ (o : Operation). IfOk r (λ n. IfSome n (λ s. OperatesInText (string_bytes c.args.text) o (string_bytes s)))) (sym c.in-Replace.is)
-    (subst (λ (t : Text). IfOk r (λ n. IfSome n (λ s. PutsInText t c.in-Replace.path v (string_bytes s)))) c.as_str-old.ensures.value
-    (subst (λ (ts : List Text). IfOk r (λ n. IfSome n (λ s. PutsInText old ts v (string_bytes s)))) c.as_ptr-in-Replace.ensures.tokens c.replace_given.ensures.put))
-
-pub returns-then-branch-clause-applied : goal.returns-then-branch-clause-applied
-returns-then-branch-clause-applied c =
-    subst (λ (o : Operation). OperatesInText (string_bytes c.args.text) o (string_bytes c.args.text)) (sym c.in-Test.is)
-    (tests (string_bytes c.args.text) c.as_str-old.result.now (tokens c.as_ptr-in-Test.result) c.in-Test.path c.in-Test.value c.as_str-old.ensures.value c.as_ptr-in-Test.ensures.tokens (c.in_ok-passes-in-Test.ensures c.if-branch.true))
+    subst (λ (o : Operation). IfOk r (λ n. IfSome n (λ s. OperatesInText c.args.text.now o (string_bytes s.text)))) (sym c.in-Replace.is)
+    (subst (λ (ts : List Text). IfOk r (λ n. IfSome n (λ s. PutsInText old ts v (string_bytes s.text)))) c.as_ptr-in-Replace.ensures.tokens c.replace_given.ensures.put)
 
 pub returns-in-Add-clause-bytes : goal.returns-in-Add-clause-bytes
 returns-in-Add-clause-bytes c =
     let r = c.add_given.result in
-    let old = c.as_str-old.result.now in
+    let old = c.args.text.now in
     let raw = c.args.operation.now.raw in
     let v = view c.in-Add.value in
-    subst (λ (o : Operation). IfOk r (λ n. IfSome n (λ s. GivenBytes (string_bytes c.args.text) o raw (string_bytes s)))) (sym c.in-Add.is)
-    (subst (λ (t : Text). IfOk r (λ n. IfSome n (λ s. AddsGiven t c.in-Add.path v raw (string_bytes s)))) c.as_str-old.ensures.value
-    (subst (λ (ts : List Text). IfOk r (λ n. IfSome n (λ s. AddsGiven old ts v raw (string_bytes s)))) c.as_ptr.ensures.tokens c.add_given.ensures.bytes))
+    subst (λ (o : Operation). IfOk r (λ n. IfSome n (λ s. GivenBytes c.args.text.now o raw (string_bytes s.text)))) (sym c.in-Add.is)
+    (subst (λ (ts : List Text). IfOk r (λ n. IfSome n (λ s. AddsGiven old ts v raw (string_bytes s.text)))) c.as_ptr.ensures.tokens c.add_given.ensures.bytes)
 
 pub returns-in-Remove-clause-bytes : goal.returns-in-Remove-clause-bytes
 returns-in-Remove-clause-bytes c =
     let r = c.cut_out.result in
-    let old = c.as_str-old.result.now in
+    let old = c.args.text.now in
     let raw = c.args.operation.now.raw in
-    subst (λ (o : Operation). IfOk r (λ n. IfSome n (λ s. GivenBytes (string_bytes c.args.text) o raw (string_bytes s)))) (sym c.in-Remove.is)
-    (subst (λ (t : Text). IfOk r (λ n. IfSome n (λ s. DeletesBytes t c.in-Remove.path (string_bytes s)))) c.as_str-old.ensures.value
-    (subst (λ (ts : List Text). IfOk r (λ n. IfSome n (λ s. DeletesBytes old ts (string_bytes s)))) c.as_ptr-in-Remove.ensures.tokens c.cut_out.ensures.bytes))
+    subst (λ (o : Operation). IfOk r (λ n. IfSome n (λ s. GivenBytes c.args.text.now o raw (string_bytes s.text)))) (sym c.in-Remove.is)
+    (subst (λ (ts : List Text). IfOk r (λ n. IfSome n (λ s. DeletesBytes old ts (string_bytes s.text)))) c.as_ptr-in-Remove.ensures.tokens c.cut_out.ensures.bytes)
 
 pub returns-in-Replace-clause-bytes : goal.returns-in-Replace-clause-bytes
 returns-in-Replace-clause-bytes c =
     let r = c.replace_given.result in
-    let old = c.as_str-old.result.now in
+    let old = c.args.text.now in
     let raw = c.args.operation.now.raw in
     let v = view c.in-Replace.value in
-    subst (λ (o : Operation). IfOk r (λ n. IfSome n (λ s. GivenBytes (string_bytes c.args.text) o raw (string_bytes s)))) (sym c.in-Replace.is)
-    (subst (λ (t : Text). IfOk r (λ n. IfSome n (λ s. ReplacesGiven t c.in-Replace.path v raw (string_bytes s)))) c.as_str-old.ensures.value
-    (subst (λ (ts : List Text). IfOk r (λ n. IfSome n (λ s. ReplacesGiven old ts v raw (string_bytes s)))) c.as_ptr-in-Replace.ensures.tokens c.replace_given.ensures.bytes))
+    subst (λ (o : Operation). IfOk r (λ n. IfSome n (λ s. GivenBytes c.args.text.now o raw (string_bytes s.text)))) (sym c.in-Replace.is)
+    (subst (λ (ts : List Text). IfOk r (λ n. IfSome n (λ s. ReplacesGiven old ts v raw (string_bytes s.text)))) c.as_ptr-in-Replace.ensures.tokens c.replace_given.ensures.bytes)
 
 pub returns-in-Move-clause-bytes : goal.returns-in-Move-clause-bytes
 returns-in-Move-clause-bytes c =
     let r = c.move_value.result in
-    let old = c.as_str-old.result.now in
+    let old = c.args.text.now in
     let raw = c.args.operation.now.raw in
     let from = tokens c.as_ptr-in-Move.result in
-    subst (λ (o : Operation). IfOk r (λ n. IfSome n (λ s. GivenBytes (string_bytes c.args.text) o raw (string_bytes s)))) (sym c.in-Move.is)
-    (subst (λ (t : Text). IfOk r (λ n. IfSome n (λ s. MovesBytes t c.in-Move.from c.in-Move.path (string_bytes s)))) c.as_str-old.ensures.value
-    (subst (λ (ts : List Text). IfOk r (λ n. IfSome n (λ s. MovesBytes old ts c.in-Move.path (string_bytes s)))) c.as_ptr-in-Move.ensures.tokens
-    (subst (λ (ts : List Text). IfOk r (λ n. IfSome n (λ s. MovesBytes old from ts (string_bytes s)))) c.as_ptr-in-Move-2.ensures.tokens c.move_value.ensures.bytes)))
+    subst (λ (o : Operation). IfOk r (λ n. IfSome n (λ s. GivenBytes c.args.text.now o raw (string_bytes s.text)))) (sym c.in-Move.is)
+    (subst (λ (ts : List Text). IfOk r (λ n. IfSome n (λ s. MovesBytes old ts c.in-Move.path (string_bytes s.text)))) c.as_ptr-in-Move.ensures.tokens
+    (subst (λ (ts : List Text). IfOk r (λ n. IfSome n (λ s. MovesBytes old from ts (string_bytes s.text)))) c.as_ptr-in-Move-2.ensures.tokens c.move_value.ensures.bytes))
 
 pub returns-in-Copy-clause-bytes : goal.returns-in-Copy-clause-bytes
 returns-in-Copy-clause-bytes c =
     let r = c.copy_value.result in
-    let old = c.as_str-old.result.now in
+    let old = c.args.text.now in
     let raw = c.args.operation.now.raw in
     let from = tokens c.as_ptr-in-Copy.result in
-    subst (λ (o : Operation). IfOk r (λ n. IfSome n (λ s. GivenBytes (string_bytes c.args.text) o raw (string_bytes s)))) (sym c.in-Copy.is)
-    (subst (λ (t : Text). IfOk r (λ n. IfSome n (λ s. CopiesBytes t c.in-Copy.from c.in-Copy.path (string_bytes s)))) c.as_str-old.ensures.value
-    (subst (λ (ts : List Text). IfOk r (λ n. IfSome n (λ s. CopiesBytes old ts c.in-Copy.path (string_bytes s)))) c.as_ptr-in-Copy.ensures.tokens
-    (subst (λ (ts : List Text). IfOk r (λ n. IfSome n (λ s. CopiesBytes old from ts (string_bytes s)))) c.as_ptr-in-Copy-2.ensures.tokens c.copy_value.ensures.bytes)))
-
-pub returns-then-branch-clause-bytes : goal.returns-then-branch-clause-bytes
-returns-then-branch-clause-bytes c = subst (λ (o : Operation). GivenBytes (string_bytes c.args.text) o c.args.operation.now.raw (string_bytes c.args.text)) (sym c.in-Test.is) refl
+    subst (λ (o : Operation). IfOk r (λ n. IfSome n (λ s. GivenBytes c.args.text.now o raw (string_bytes s.text)))) (sym c.in-Copy.is)
+    (subst (λ (ts : List Text). IfOk r (λ n. IfSome n (λ s. CopiesBytes old ts c.in-Copy.path (string_bytes s.text)))) c.as_ptr-in-Copy.ensures.tokens
+    (subst (λ (ts : List Text). IfOk r (λ n. IfSome n (λ s. CopiesBytes old from ts (string_bytes s.text)))) c.as_ptr-in-Copy-2.ensures.tokens c.copy_value.ensures.bytes))

@@ -23,4 +23,4 @@ returns c =
     let whole = subst (λ (o : Option ChildText). IfSome o (λ p. middle ≡ p.lead.now ++ (p.name.now ++ (p.value.now ++ p.trail.now)))) c.in-Some-2.is c.in_ok-parts.ensures.whole in
     let child = subst (λ (o : Option ChildText). IfSome o (λ p. (e : Data) × IsReadAs given e × IsCutChild key e middle p.value.now p.trail.now)) c.in-Some-2.is c.in_ok-parts.ensures.child in
     let there : old ≡ before ++ ((parts.lead.now ++ (parts.name.now ++ (parts.value.now ++ parts.trail.now))) ++ after) = is ∙ ap (λ (p : Text). before ++ (p ++ after)) whole in
-    (child.0, child.1, child_cut old (string_bytes c.in_ok-splice.field-0) before middle after parts.value.now parts.trail.now path key child.0 is c.in_ok-splice.ensures child.2 (c.in_ok-is_child_after.ensures after there c.if-not-branch.false))
+    (child.0, child.1, child_cut old (string_bytes c.in_ok-text.text) before middle after parts.value.now parts.trail.now path key child.0 is c.in_ok-text.ensures child.2 (c.in_ok-is_child_after.ensures after there c.if-not-branch.false))
