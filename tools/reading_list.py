@@ -48,6 +48,7 @@ OTHERS = {
     "edits in text": [
         *((f"jsonptr_edit_in_text/src/{it}.rt", [f"{it}_in_text"]) for it in EDITS),
         ("jsonptr_edit_in_text/src/in_place.rt", [*(f"{it}_in_place" for it in EDITS), "assign_raw_in_place", "apply_raw_in_place"]),
+        ("jsonptr_edit_in_text/src/rename.rt", ["rename_in_text"]),
         ("jsonptr_edit_in_text/src/locate.rt", ["locate_in_text"]),
     ],
     "documents as lines": [

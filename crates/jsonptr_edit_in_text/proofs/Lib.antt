@@ -8,3 +8,5 @@ pub mod OperatingLemmas
 pub mod RawLemmas
 pub mod ReachingLemmas
 pub mod RemoveLemmas
+pub mod RenameErrorLemmas
+pub mod RenamingLemmas

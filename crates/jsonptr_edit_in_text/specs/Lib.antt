@@ -9,6 +9,8 @@ pub mod PatchInText
 pub mod PrivateGiving
 pub mod PrivateOperating
 pub mod PrivateReaching
+pub mod PrivateRenaming
 pub mod PrivateRewriting
 pub mod RawPatching
+pub mod Renaming
 pub mod Steps

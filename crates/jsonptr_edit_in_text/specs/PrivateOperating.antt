@@ -1,6 +1,5 @@
 -- Words of private clauses: one operation of a patch, in a text.
 use Rattle.std.specs.Prelude.{◌≡◌, List, [], ◌∷◌, ◌++◌, Some, None}
-use Rattle.json.specs.Lex.{tokens as lexed}
 use Rattle.serde_json.specs.Data.{Data}
 use Rattle.serde_json.specs.Read.{read}
 use Rattle.jsonptr.specs.Text.{Text}
@@ -12,10 +11,9 @@ use Rattle.jsonptr_in_text.specs.InText.{FindsInText}
 use Rattle.jsonptr_in_text.specs.Selecting.{IsChoiceOf, AreChoicesOf}
 use Rattle.jsonptr_json_edits.specs.Editing.{AddsElement}
 use Rattle.jsonptr_patch.specs.Adding.{Adds}
-use Rattle.jsonptr_patch.specs.Operating.{AppliesBy, Moves, Copies, PassesBy}
+use Rattle.jsonptr_patch.specs.Operating.{AppliesBy, Moves, Copies}
 use Rattle.jsonptr_patch.specs.declared.operation.Operation.{Operation}
 use Rattle.jsonptr_patch.specs.declared.comparison.Comparison.TheVariants.{Numeric}
-use Rattle.jsonptr_edit_in_text.specs.PatchInText.{AddsAtBytes, added_text}
 
 -- `OperatesInText old o new`: the texts read as documents, and the operation `o` turns the first into the second
 abbrev pub OperatesInText : Text → Operation → Text → Type 0

@@ -16,8 +16,9 @@ use Rattle.jsonptr_edit_in_text.specs.Bytes.{ReplacesBytes, DeletesBytes}
 use Rattle.jsonptr_edit_in_text.specs.EditInText.{AssignsInText, DeletesInText}
 use Rattle.jsonptr_edit_in_text.specs.Giving.{AssignsGiven}
 use Rattle.jsonptr_edit_in_text.specs.PatchInText.{AddsAtBytes, added_text}
+use Rattle.jsonptr_edit_in_text.specs.Renaming.{RenamesInText, RenamesBytes}
 use Rattle.jsonptr_edit_in_text.specs.declared.step.Step.{Step}
-use Rattle.jsonptr_edit_in_text.specs.declared.step.Step.TheVariants.{Assign, Delete, Add, Replace}
+use Rattle.jsonptr_edit_in_text.specs.declared.step.Step.TheVariants.{Assign, Delete, Add, Replace, Rename}
 
 -- `AddsInText old tokens flat new`: the texts read as documents, and adding the value of the text `flat` at the tokens turns the
 -- first document into the second
@@ -54,6 +55,7 @@ StepsText old (Assign pointer raw) new = AssignsInText old (tokens pointer) (nod
 StepsText old (Delete pointer) new = DeletesInText old (tokens pointer) new
 StepsText old (Add pointer printed) new = AddsInText old (tokens pointer) (string_bytes printed.now.flat) new
 StepsText old (Replace pointer printed) new = ReplacesInText old (tokens pointer) (string_bytes printed.now.flat) new
+StepsText old (Rename pointer key) new = RenamesInText old (tokens pointer) key.now new
 
 -- `StepBytes old step new`: which bytes of the text `old` the step changes, and that the value which it brings has its own
 -- tokens
@@ -62,3 +64,4 @@ StepBytes old (Assign pointer raw) new = AssignsGiven old (tokens pointer) raw.n
 StepBytes old (Delete pointer) new = DeletesBytes old (tokens pointer) new
 StepBytes old (Add pointer printed) new = AddsAtByText old (tokens pointer) (string_bytes printed.now.flat) new
 StepBytes old (Replace pointer printed) new = ReplacesByText old new (tokens pointer) (string_bytes printed.now.flat)
+StepBytes old (Rename pointer key) new = RenamesBytes old (tokens pointer) key.now new

@@ -9,6 +9,7 @@
 //! ```
 //!
 //! - [`assign_in_text`] and [`delete_in_text`] edit at a pointer, as `assign` and `delete` do.
+//! - [`rename_in_text`] gives a member of an object another key.
 //! - [`apply_in_text`] applies a JSON Patch (RFC 6902), all of its operations or none.
 //! - [`assign_raw_in_place`] assigns a [`RawValue`], which keeps its own text: the order of its members
 //!   and the form of its numbers.
@@ -50,6 +51,8 @@ mod operate;
 mod place;
 pub mod plan;
 mod remove;
+mod rename;
+mod rename_document;
 mod replace;
 mod rewrite;
 mod step;
@@ -74,5 +77,6 @@ pub use jsonptr_value::ReadError;
 pub use locate::{LocateError, Located, locate_in_text, locate_in_text_with};
 pub use one_line::stays_one_line;
 pub use operate::passes;
+pub use rename::{RenameError, rename_in_text};
 pub use rewrite::apply_and_print;
 pub use step::{Step, take_step};

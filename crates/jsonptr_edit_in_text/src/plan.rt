@@ -23,6 +23,8 @@ pub enum Plan {
     Added(Added),
     /// A child was cut out of an array or an object.
     Removed(Removed),
+    /// A member got another key.
+    Renamed(Renamed),
 }
 
 /// A value that was replaced.
@@ -62,4 +64,13 @@ pub struct Removed {
     pub key: Option<String>,
     /// How many members before it had the same key. They were cut out too.
     pub others: usize,
+}
+
+/// The name of a member that was replaced.
+#[derive(Debug, Drop)]
+pub struct Renamed {
+    /// Where the name was.
+    pub name: Span,
+    /// The text of the new name.
+    pub piece: String,
 }

@@ -104,7 +104,7 @@ fn shortened<'a>(pointer: Pointer<'a>) -> Pointer<'a>
 ///
 /// [`EditError::TooDeep`] if it nests deeper than 127, and [`EditError::Memory`] if an allocation
 /// fails.
-fn print_document<E>(alloc: Global, document: Value) -> Result<String, EditError<E>>
+pub fn print_document<E>(alloc: Global, document: Value) -> Result<String, EditError<E>>
     ensures printed { IfOk result (λ s. read (string_bytes s) ≡ Some (view document)) }
     ensures refused { IfErr result (IsPrintError (view document)) }
 {

@@ -6,6 +6,7 @@ use crate::add::add_at;
 use crate::assign::try_assign;
 use crate::delete::cut_out;
 use crate::plan::Made;
+use crate::rename::rename_at;
 use crate::replace::replace_at;
 use jsonptr::Pointer;
 use jsonptr_json_edits::buffers::Buffers;
@@ -25,6 +26,8 @@ pub enum Step<'a> {
     /// Replaces the value at the pointer by that of the text, as the operation `replace` does (RFC 6902,
     /// section 4.3).
     Replace(Pointer<'a>, &'a ValueText),
+    /// Gives the member at the pointer another key, as [`rename_in_text`](crate::rename_in_text) does.
+    Rename(Pointer<'a>, &'a str),
 }
 
 /// Makes the edit in the text. Returns `None` where the document would have to be printed anew, and for each
@@ -60,5 +63,6 @@ pub fn take_step(
         Step::Delete(pointer) => cut_out(buffers, text, pointer),
         Step::Add(pointer, printed) => add_at(buffers, text, pointer, printed),
         Step::Replace(pointer, printed) => replace_at(buffers, text, pointer, printed),
+        Step::Rename(pointer, key) => rename_at(buffers, text, pointer, key),
     }
 }

@@ -1,5 +1,4 @@
-use Rattle.std.proofs.Common.{◌∷◌, List, Option, String, IfOk, IfSome, string_bytes, sym, subst}
-use Rattle.std.specs.declared.alloc.Global.{Global}
+use Rattle.std.proofs.Common.{◌∷◌, List, Option, IfOk, IfSome, string_bytes, sym, subst}
 use Rattle.jsonptr_edit_in_text.specs.PrivateOperating.{OperatesInText}
 use Rattle.jsonptr_edit_in_text.specs.declared.plan.Made.{Made}
 use Rattle.jsonptr_edit_in_text.specs.PatchInText.{PatchesInText}

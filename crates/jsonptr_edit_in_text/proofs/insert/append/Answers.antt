@@ -1,6 +1,6 @@
-use Rattle.std.proofs.Common.{◌≡◌, [], ◌∷◌, ◌++◌, Option, String, None, IfSome, string_bytes, subst}
+use Rattle.std.proofs.Common.{[], ◌∷◌, ◌++◌, Option, String, None, IfSome, string_bytes, subst}
 use Rattle.std.specs.declared.alloc.Global.{Global}
-use Rattle.jsonptr.specs.Text.{Text, dec}
+use Rattle.jsonptr.specs.Text.{Text}
 use Rattle.jsonptr.specs.Pointer.{tokens}
 use Rattle.jsonptr_json_edits.specs.declared.edit.Edit.TheVariants as edit
 use Rattle.jsonptr_json_edits.specs.Editing.{Makes}

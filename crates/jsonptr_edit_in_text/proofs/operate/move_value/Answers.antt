@@ -1,5 +1,4 @@
-use Rattle.std.proofs.Common.{Option, String, IfSome, true≢false, string_bytes, sym, ◌∙◌, subst}
-use Rattle.std.specs.declared.alloc.Global.{Global}
+use Rattle.std.proofs.Common.{Option, IfSome, true≢false, string_bytes, sym, ◌∙◌, subst}
 use Rattle.jsonptr.specs.Text.{Text}
 use Rattle.jsonptr.specs.Pointer.{tokens}
 use Rattle.jsonptr_patch.specs.Operating.{IsProperPrefix}

@@ -1,5 +1,4 @@
-use Rattle.std.proofs.Common.{[], ◌∷◌, ◌++◌, List, ℕ, Option, Some, None, String, IfSome, string_bytes, refl, subst}
-use Rattle.std.specs.declared.alloc.Global.{Global}
+use Rattle.std.proofs.Common.{[], ◌∷◌, ◌++◌, List, ℕ, Option, Some, None, IfSome, string_bytes, refl, subst}
 use Rattle.serde_json.specs.Data.{Data}
 use Rattle.jsonptr.specs.Pointer.{tokens}
 use Rattle.jsonptr_json_edits.specs.Child.{IsReadAs}

@@ -3,7 +3,6 @@ use Rattle.jsonptr.specs.Pointer.{tokens}
 use Rattle.jsonptr_edit_in_text.specs.PrivateReaching.{ReachedInText, Becomes}
 use Rattle.jsonptr_edit_in_text.specs.Steps.{ReplacesInText, StepsText, StepBytes}
 use Rattle.jsonptr_edit_in_text.specs.declared.step.Step.{Step}
-use Rattle.jsonptr_edit_in_text.specs.declared.step.Step.TheVariants.{Assign, Delete, Add, Replace}
 use Rattle.jsonptr_edit_in_text.proofs.EditLemmas.{if_new}
 use Rattle.jsonptr_edit_in_text.proofs.OperatingLemmas.{replaces_text}
 use Rattle.jsonptr_edit_in_text.proofs.step.take_step.Goals as goal
@@ -47,3 +46,11 @@ returns-in-Add-clause-bytes c =
 pub returns-in-Replace-clause-bytes : goal.returns-in-Replace-clause-bytes
 returns-in-Replace-clause-bytes c =
     subst (λ (s : Step). IfOk c.replace_at.result (λ o. IfSome o (λ m. StepBytes c.args.text.now s (string_bytes m.text)))) (sym c.in-Replace.is) c.replace_at.ensures.bytes
+
+pub returns-in-Rename-clause-stepped : goal.returns-in-Rename-clause-stepped
+returns-in-Rename-clause-stepped c =
+    subst (λ (s : Step). IfOk c.rename_at.result (λ o. IfSome o (λ m. StepsText c.args.text.now s (string_bytes m.text)))) (sym c.in-Rename.is) c.rename_at.ensures.renamed
+
+pub returns-in-Rename-clause-bytes : goal.returns-in-Rename-clause-bytes
+returns-in-Rename-clause-bytes c =
+    subst (λ (s : Step). IfOk c.rename_at.result (λ o. IfSome o (λ m. StepBytes c.args.text.now s (string_bytes m.text)))) (sym c.in-Rename.is) c.rename_at.ensures.bytes
