@@ -12,3 +12,4 @@ pub mod TokenLemmas
 pub mod JsonLemmas
 pub mod StopLemmas
 pub mod PartLemmas
+pub mod BareLemmas

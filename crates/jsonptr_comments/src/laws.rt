@@ -3,7 +3,7 @@ ghost use Rattle.std.specs.Prelude.{◌≡◌, ◌⊎◌, ◌↔◌, List, [], �
 ghost use Rattle.json.specs.Json.{Json, document};
 ghost use Rattle.serde_json.specs.Data.{Data};
 ghost use Rattle.serde_json.specs.Read.{read};
-ghost use Rattle.jsonptr_comments.specs.Comments.{Piece, Pieces, IsWithoutComments, IsUnterminated, IsPlain};
+ghost use Rattle.jsonptr_comments.specs.Comments.{Piece, Pieces, IsWithoutComments, IsUnterminated, IsPlain, IsBare};
 
 /// States that a text is exactly one sequence of pieces, or has a block comment that is not closed, at
 /// exactly one offset.
@@ -22,6 +22,12 @@ pub fn pieces_law()
 pub fn function_law()
     ensures { (text new other : List ℕ)
         → IsWithoutComments text new → IsWithoutComments text other → new ≡ other }
+{}
+
+/// States that what a [`CommentedText`](crate::CommentedText) says of its two texts is that the second one is the
+/// first one without comments.
+pub fn bare_law()
+    ensures { (text bare : List ℕ) → (IsBare text bare ↔ IsWithoutComments text bare) }
 {}
 
 /// States that the text without comments is as long as the text.

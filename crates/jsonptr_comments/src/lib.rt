@@ -9,6 +9,8 @@
 //! assert_eq!(rt; json.as_str(), "{        \n  \"size\": 3          \n}");
 //! ```
 //!
+//! A [`CommentedText`] keeps both texts, so that the comments of a text are looked for once.
+//!
 //! The module [`piece`] cuts a text into strings, comments and other bytes.
 //!
 //! In the examples `rt` is the runtime that `main` and each test receive, and `alloc` is
@@ -16,6 +18,7 @@
 #![tactic(auto)]
 
 mod back;
+mod commented_text;
 mod comments;
 mod error;
 pub mod laws;
@@ -23,5 +26,6 @@ pub mod piece;
 mod scan;
 mod step;
 
+pub use commented_text::CommentedText;
 pub use comments::without_comments;
 pub use error::CommentError;
