@@ -2,3 +2,5 @@ pub mod EditLemmas
 pub mod CheckLemmas
 pub mod KeptLemmas
 pub mod PatchLemmas
+pub mod StepLemmas
+pub mod OperationLemmas

@@ -1,65 +1,88 @@
 -- What is known of a text with comments after a patch.
-use Rattle.std.proofs.Common.{◌≡◌, List, [], ◌∷◌, ◌++◌, Option, Some, None, String, Result, Ok, Err, IfOk, IfSome, string_bytes, refl, ◌∙◌, subst}
-use Rattle.std.specs.declared.alloc.AllocError.{AllocError}
+use Rattle.std.proofs.Common.{◌≡◌, List, [], ◌∷◌, ◌++◌, String, Result, Ok, Err, IfOk, string_bytes, refl, sym, subst}
 use Rattle.std.specs.declared.alloc.Global.{Global}
 use Rattle.jsonptr.specs.Text.{Text}
 use Rattle.jsonptr_comments.specs.Comments.{IsWithoutComments}
 use Rattle.jsonptr_patch.specs.declared.operation.Operation.{Operation}
+use Rattle.jsonptr_patch.specs.declared.operation.Operation.TheVariants.{Add, Remove, Replace, Move, Copy, Test}
 use Rattle.jsonptr_patch.specs.declared.failed_operation.FailedOperation.{FailedOperation}
-use Rattle.jsonptr_edit_in_text.specs.PatchInText.{PatchesInText, PatchBytes}
 use Rattle.jsonptr_text_value.specs.Operations.{operations_in}
-use Rattle.jsonptr_edit_in_text.specs.RawPatching.{RawPatchBytes}
 use Rattle.jsonptr_text_value.specs.declared.raw_operation.RawOperation.{RawOperation}
-use Rattle.jsonptr_edit_with_comments.specs.Edits.{IsLaidOut, IsOneEdit}
-use Rattle.jsonptr_edit_with_comments.specs.EditWithComments.{Becomes, EditsAs}
-use Rattle.jsonptr_edit_with_comments.specs.Patches.{OperationEdits, PatchEdits, IsMadeInTwo}
+use Rattle.jsonptr_text_value.proofs.ListLemmas.{operations_push}
+use Rattle.jsonptr_edit_in_text.specs.PatchInText.{PatchesInText, OperationBytes}
+use Rattle.jsonptr_edit_in_text.specs.RawPatching.{GivenBytes}
+use Rattle.jsonptr_edit_in_text.proofs.OperatingLemmas.{patches_first, patches_more}
+use Rattle.jsonptr_edit_in_text.proofs.RawLemmas.{patch_bytes}
+use Rattle.jsonptr_edit_with_comments.specs.EditWithComments.{Becomes}
+use Rattle.jsonptr_edit_with_comments.specs.Patches.{OperationEdits, PatchEdits, EditsAt, OperatesAs, CommentedPatchBytes, CommentedRawPatchBytes}
+use Rattle.jsonptr_edit_with_comments.specs.PrivateStepping.{IsOperated, IsPatched}
 use Rattle.jsonptr_edit_with_comments.specs.declared.error.WithCommentsError.{WithCommentsError}
-use Rattle.jsonptr_text_value.proofs.WrappingLemmas.{read_same}
 
-abbrev pub Made : Type 0
-Made = Result (Option (String Global)) AllocError
+-- ---- all operations
 
--- one operation more
-pub edits_push : (old mid new : Text) (os : List Operation) (o : Operation) → PatchEdits old os mid → OperationEdits mid o new → PatchEdits old (os ++ o ∷ []) new
-edits_push old mid new [] o h last = (new, subst (λ (t : Text). OperationEdits t o new) h last, refl)
-edits_push old mid new (q ∷ os) o h last = (h.0, h.1, edits_push h.0 mid new os o h.2 last)
+-- an operation before others
+pub patched_first : (text bare mid rest made json : Text) (r : RawOperation) (rs : List RawOperation) → IsOperated text bare r.operation r.raw mid rest → IsPatched mid rest rs made json → IsPatched text bare (r ∷ rs) made json
+patched_first text bare mid rest made json r rs h k = record {
+  without = k.without;
+  means = patches_first bare rest json r.operation (operations_in rs) h.means k.means;
+  bytes = (mid, h.bytes, k.bytes);
+}
 
--- the text that is made means what the text without comments does
-pub patched : (text old new : Text) (os : List Operation) (r : Made) → IsWithoutComments text old → PatchesInText old os new → IfOk r (λ m. IfSome m (λ s. IsLaidOut new (string_bytes s)))
-    → IfOk r (λ m. IfSome m (λ s. Becomes (λ a b. PatchesInText a os b) text (string_bytes s)))
-patched text old new os (Err e) w a h = h
-patched text old new os (Ok None) w a h = h
-patched text old new os (Ok (Some s)) w a h = (old, h.0, w, h.1, (a.0, a.1, a.2, read_same h.0 new h.2 ∙ a.3, a.4))
+bytes_push : (text mid made : Text) (rs : List RawOperation) (r : RawOperation) → CommentedRawPatchBytes text rs mid → OperatesAs (λ old new. GivenBytes old r.operation r.raw new) mid r.operation made → CommentedRawPatchBytes text (rs ++ r ∷ []) made
+bytes_push text mid made [] r h last = (made, subst (λ (t : Text). OperatesAs (λ old new. GivenBytes old r.operation r.raw new) t r.operation made) h last, refl)
+bytes_push text mid made (q ∷ rs) r h last = (h.0, h.1, bytes_push h.0 mid made rs r h.2 last)
 
-pub edited_as : (P : Text → Text → Type 0) (text old new : Text) (r : Made) → IsWithoutComments text old → P old new → IfOk r (λ m. IfSome m (λ s. IsLaidOut new (string_bytes s)))
-    → IfOk r (λ m. IfSome m (λ s. EditsAs P text (string_bytes s)))
-edited_as P text old new (Err e) w p h = h
-edited_as P text old new (Ok None) w p h = h
-edited_as P text old new (Ok (Some s)) w p h = (old, new, w, h, p)
+-- an operation more
+pub patched_more : (text bare mid rest made json : Text) (rs : List RawOperation) (r : RawOperation) → IsPatched text bare rs mid rest → IsOperated mid rest r.operation r.raw made json → IsPatched text bare (rs ++ r ∷ []) made json
+patched_more text bare mid rest made json rs r h last = record {
+  without = last.without;
+  means = subst (λ (os : List Operation). PatchesInText bare os json) (sym (operations_push rs r)) (patches_more bare rest json (operations_in rs) r.operation h.means last.means);
+  bytes = bytes_push text mid made rs r h.bytes last.bytes;
+}
 
--- the texts of values left aside
-pub plain_edits : ((old new : Text) (rs : List RawOperation) → RawPatchBytes old rs new → PatchBytes old (operations_in rs) new)
-    → (r : Result (String Global) (WithCommentsError FailedOperation)) (text : Text) (rs : List RawOperation) (os : List Operation) → operations_in rs ≡ os
-    → IfOk r (λ s. EditsAs (λ old new. RawPatchBytes old rs new) text (string_bytes s))
-    → IfOk r (λ s. EditsAs (λ old new. PatchBytes old os new) text (string_bytes s))
-plain_edits law (Err e) text rs os same h = h
-plain_edits law (Ok s) text rs os same h = (h.0, h.1, h.2, h.3, subst (λ (l : List Operation). PatchBytes h.0 l h.1) same (law h.0 h.1 rs h.4))
+-- ---- what it promises
 
-pub made_in_two : (text : Text) (from path : List Text) (left : Text) (r : Made) → IsOneEdit text from left → IfOk r (λ m. IfSome m (λ s. IsOneEdit left path (string_bytes s)))
-    → IfOk r (λ m. IfSome m (λ s. IsMadeInTwo text from path (string_bytes s)))
-made_in_two text from path left (Err e) cut h = h
-made_in_two text from path left (Ok None) cut h = h
-made_in_two text from path left (Ok (Some s)) cut h = (left, cut, h)
+pub patched : (text bare made json : Text) (rs : List RawOperation) → IsWithoutComments text bare → IsPatched text bare rs made json → Becomes (λ old new. PatchesInText old (operations_in rs) new) text made
+patched text bare made json rs was h = (bare, json, was, h.without, h.means)
 
--- the same text and the same tokens by other names
-pub edited_at : (text old : Text) (path ts : List Text) (r : Made) → old ≡ text → ts ≡ path → IfOk r (λ m. IfSome m (λ s. IsOneEdit old ts (string_bytes s))) → IfOk r (λ m. IfSome m (λ s. IsOneEdit text path (string_bytes s)))
-edited_at text old path ts r e f h =
-    subst (λ (t : Text). IfOk r (λ m. IfSome m (λ s. IsOneEdit t path (string_bytes s)))) e
-    (subst (λ (x : List Text). IfOk r (λ m. IfSome m (λ s. IsOneEdit old x (string_bytes s)))) f h)
+-- the pieces that change, the bytes left aside
+operation_pieces : (P : Text → Text → Type 0) (text : Text) (o : Operation) (made : Text) → OperatesAs P text o made → OperationEdits text o made
+operation_pieces P text (Add path value) made h = h.1
+operation_pieces P text (Remove path) made h = h.1
+operation_pieces P text (Replace path value) made h = h.1
+operation_pieces P text (Move from path) made h = (h.1, h.2.1, h.3.1)
+operation_pieces P text (Copy from path) made h = h.1
+operation_pieces P text (Test path value) made h = h
 
-pub moved_at : (text old : Text) (from path fs ts : List Text) (r : Made) → old ≡ text → fs ≡ from → ts ≡ path → IfOk r (λ m. IfSome m (λ s. IsMadeInTwo old fs ts (string_bytes s)))
-    → IfOk r (λ m. IfSome m (λ s. IsMadeInTwo text from path (string_bytes s)))
-moved_at text old from path fs ts r e f g h =
-    subst (λ (t : Text). IfOk r (λ m. IfSome m (λ s. IsMadeInTwo t from path (string_bytes s)))) e
-    (subst (λ (x : List Text). IfOk r (λ m. IfSome m (λ s. IsMadeInTwo old x path (string_bytes s)))) f
-    (subst (λ (x : List Text). IfOk r (λ m. IfSome m (λ s. IsMadeInTwo old fs x (string_bytes s)))) g h))
+pub patch_pieces : (text made : Text) (rs : List RawOperation) → CommentedRawPatchBytes text rs made → PatchEdits text (operations_in rs) made
+patch_pieces text made [] h = h
+patch_pieces text made (r ∷ rs) h = (h.0, operation_pieces (λ old new. GivenBytes old r.operation r.raw new) text r.operation h.0 h.1, patch_pieces h.0 made rs h.2)
+
+-- ---- the texts of values left aside
+
+given_plain : (old new : Text) (r : RawOperation) → GivenBytes old r.operation r.raw new → OperationBytes old r.operation new
+given_plain old new r h = let p = patch_bytes old new (r ∷ []) (new, h, refl) in subst (λ (t : Text). OperationBytes old r.operation t) (sym p.2) p.1
+
+plain_at : (P Q : Text → Text → Type 0) (text : Text) (path : List Text) (made : Text) → ((old new : Text) → P old new → Q old new) → EditsAt P text path made → EditsAt Q text path made
+plain_at P Q text path made f h = ((h.0.0, h.0.1, h.0.2, h.0.3, f h.0.0 h.0.1 h.0.4), h.1)
+
+operates_plain : (P Q : Text → Text → Type 0) (text : Text) (o : Operation) (made : Text) → ((old new : Text) → P old new → Q old new) → OperatesAs P text o made → OperatesAs Q text o made
+operates_plain P Q text (Add path value) made f h = plain_at P Q text path made f h
+operates_plain P Q text (Remove path) made f h = plain_at P Q text path made f h
+operates_plain P Q text (Replace path value) made f h = plain_at P Q text path made f h
+operates_plain P Q text (Move from path) made f h = h
+operates_plain P Q text (Copy from path) made f h = plain_at P Q text path made f h
+operates_plain P Q text (Test path value) made f h = h
+
+patch_plain : (text made : Text) (rs : List RawOperation) → CommentedRawPatchBytes text rs made → CommentedPatchBytes text (operations_in rs) made
+patch_plain text made [] h = h
+patch_plain text made (r ∷ rs) h = (
+  h.0,
+  operates_plain (λ old new. GivenBytes old r.operation r.raw new) (λ old new. OperationBytes old r.operation new) text r.operation h.0 (λ old new g. given_plain old new r g) h.1,
+  patch_plain h.0 made rs h.2,
+)
+
+pub plain_bytes : (r : Result (String Global) (WithCommentsError FailedOperation)) (text : Text) (rs : List RawOperation) (os : List Operation) → operations_in rs ≡ os
+    → IfOk r (λ s. CommentedRawPatchBytes text rs (string_bytes s)) → IfOk r (λ s. CommentedPatchBytes text os (string_bytes s))
+plain_bytes (Err e) text rs os same h = h
+plain_bytes (Ok s) text rs os same h = subst (λ (l : List Operation). CommentedPatchBytes text l (string_bytes s)) same (patch_plain text (string_bytes s) rs h)

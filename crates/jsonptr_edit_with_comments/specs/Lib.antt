@@ -3,3 +3,4 @@ pub mod Edits
 pub mod Kept
 pub mod Patches
 pub mod PrivateChecking
+pub mod PrivateStepping

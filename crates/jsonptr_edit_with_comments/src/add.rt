@@ -2,13 +2,13 @@
 //! right.
 
 use crate::change::{Change, Comma, Kind};
-use crate::effect::{Family, Texts};
-use crate::gap::gap_of;
-use jsonptr_json_edits::layout::slice;
+use crate::gap::{end_before, gap_of};
+use crate::texts::Texts;
+use jsonptr_json_edits::layout::{Container, Piece, slice};
 use jsonptr_json_edits::locate::{Extent, Span};
 use std::alloc::{AllocError, Global};
 
-/// A new child, as the text without comments has it after the edit.
+/// A new child, as it comes into the text without comments.
 #[derive(Clone, Copy, Debug)]
 struct NewChild<'t> {
     /// Its name, if it is a member.
@@ -22,11 +22,12 @@ struct NewChild<'t> {
 }
 
 impl<'t> NewChild<'t> {
-    /// Returns the child with this white space, with comments in the array or object or not.
+    /// Returns the child of the piece with this white space, with comments in the array or object or not.
     ///
     /// Where a sibling has comments, the edit without comments copies white space that is as long.
-    fn of(texts: Texts<'t>, new: Extent, space: &'t str, is_commented: bool) -> NewChild<'t> {
-        let field = slice(texts.new, new.child.from, new.value);
+    fn of(piece: &'t Piece, space: &'t str, is_commented: bool) -> NewChild<'t> {
+        let text = piece.text.as_str();
+        let field = slice(text, piece.child.child.from, piece.child.value);
         let name_end = match field.rfind('"') {
             Some(quote) => quote.saturating_add(1),
             None => 0,
@@ -39,7 +40,7 @@ impl<'t> NewChild<'t> {
             } else {
                 colon
             },
-            value: slice(texts.new, new.value, new.child.to),
+            value: slice(text, piece.child.value, piece.child.child.to),
             space: if is_commented {
                 from_last_break(space)
             } else {
@@ -71,7 +72,7 @@ struct Location {
     replaced: Span,
 }
 
-/// Returns the change that adds the child at the position, or `None` if there is no such child.
+/// Returns the change that adds the child of the piece at the position.
 ///
 /// # Errors
 ///
@@ -79,46 +80,44 @@ struct Location {
 pub fn addition(
     alloc: Global,
     texts: Texts<'_>,
-    family: &Family,
+    container: Container<'_>,
     position: usize,
-) -> Result<Option<Change>, AllocError> {
-    let Some(new) = family.new.get(position) else {
-        return Ok(None);
-    };
-    let span = family.container;
+    piece: &Piece,
+) -> Result<Change, AllocError> {
+    let span = container.span;
     let is_commented = slice(texts.text, span.from, span.to)
-        != slice(texts.old, span.from, span.to);
-    let Some(last) = family.old.last() else {
-        return Ok(Some(first(alloc, texts, family, *new)?));
+        != slice(texts.bare, span.from, span.to);
+    let Some(last) = container.children.last() else {
+        return first(alloc, texts, container, piece);
     };
-    let Some(next) = family.old.get(position) else {
-        let space = space_before(texts, family, position);
-        let child = NewChild::of(texts, *new, space, is_commented);
-        return Ok(Some(append(alloc, texts, family, *last, child)?));
+    let Some(next) = container.children.get(position) else {
+        let child = NewChild::of(piece, space_before(piece), is_commented);
+        return append(alloc, texts, container, *last, child);
     };
-    let space = space_before(texts, family, position.saturating_add(1));
-    let child = NewChild::of(texts, *new, space, is_commented);
+    let child = NewChild::of(piece, space_after(piece), is_commented);
     let gap = Span {
-        from: family.end_before(position),
+        from: end_before(container, position),
         to: next.child.from,
     };
-    Ok(Some(insert(alloc, texts, gap, child)?))
+    insert(alloc, texts, gap, child)
 }
 
-/// Returns the white space between the comma and the child at the position, after the edit.
-fn space_before<'t>(texts: Texts<'t>, family: &Family, position: usize) -> &'t str {
-    let Some(before) = position.checked_sub(1) else {
-        return "";
-    };
-    match (family.new.get(before), family.new.get(position)) {
-        (Some(one), Some(two)) => {
-            let gap = slice(texts.new, one.child.to, two.child.from);
-            match gap.find(',') {
-                Some(comma) => slice(gap, comma.saturating_add(1), gap.len()),
-                None => "",
-            }
-        }
-        _ => "",
+/// Returns the white space between the comma before the child of the piece and the child.
+fn space_before(piece: &Piece) -> &str {
+    after_comma(slice(piece.text.as_str(), 0, piece.child.child.from))
+}
+
+/// Returns the white space after the comma after the child of the piece.
+fn space_after(piece: &Piece) -> &str {
+    let text = piece.text.as_str();
+    after_comma(slice(text, piece.child.child.to, text.len()))
+}
+
+/// Returns what is after the comma, or an empty text if there is none.
+fn after_comma(gap: &str) -> &str {
+    match gap.find(',') {
+        Some(comma) => slice(gap, comma.saturating_add(1), gap.len()),
+        None => "",
     }
 }
 
@@ -127,12 +126,12 @@ fn space_before<'t>(texts: Texts<'t>, family: &Family, position: usize) -> &'t s
 fn append(
     alloc: Global,
     texts: Texts<'_>,
-    family: &Family,
+    container: Container<'_>,
     last: Extent,
     new: NewChild<'_>,
 ) -> Result<Change, AllocError> {
     let from = last.child.to;
-    let gap = gap_of(texts.text, from, family.container.to.saturating_sub(1));
+    let gap = gap_of(texts.text, from, container.span.to.saturating_sub(1));
     let is_over_lines = new.space.contains('\n');
     if gap.has_line_comment && !is_over_lines {
         return put(
@@ -222,15 +221,16 @@ fn insert(
 fn first(
     alloc: Global,
     texts: Texts<'_>,
-    family: &Family,
-    new: Extent,
+    container: Container<'_>,
+    piece: &Piece,
 ) -> Result<Change, AllocError> {
-    let from = family.container.from.saturating_add(1);
-    let to = family.container.to.saturating_sub(1);
-    let end = texts.moved(family.container).to.saturating_sub(1);
-    let lead = slice(texts.new, from, new.child.from);
-    let body = slice(texts.new, new.child.from, new.child.to);
-    let trail = slice(texts.new, new.child.to, end);
+    let from = container.span.from.saturating_add(1);
+    let to = container.span.to.saturating_sub(1);
+    let text = piece.text.as_str();
+    let child = piece.child.child;
+    let lead = slice(text, 0, child.from);
+    let body = slice(text, child.from, child.to);
+    let trail = slice(text, child.to, text.len());
     let Some(after) = gap_of(texts.text, from, to).comments_end else {
         return put(alloc, replacing(from, to), &[lead, body, trail]);
     };

@@ -1,20 +1,20 @@
 //! Applying a patch in a text with comments (RFC 6902).
-ghost use Rattle.std.specs.Prelude.{IfOk, IfErr, IfSome, string_bytes};
-ghost use Rattle.jsonptr_edit_in_text.specs.PatchInText.{PatchesInText, PatchBytes, IsPatchError};
+ghost use Rattle.std.specs.Prelude.{◌≡◌, [], Some, IfOk, IfErr, IfSome, string_bytes};
+ghost use Rattle.serde_json.specs.Data.{Data};
+ghost use Rattle.serde_json.specs.Read.{read};
+ghost use Rattle.jsonptr_comments.specs.Comments.{IsWithoutComments};
+ghost use Rattle.jsonptr_edit_in_text.specs.PatchInText.{PatchesInText, IsPatchError};
 ghost use Rattle.jsonptr_text_value.specs.Operations.{operations_in};
-ghost use Rattle.jsonptr_edit_in_text.specs.RawPatching.{RawPatchBytes};
-ghost use Rattle.jsonptr_edit_with_comments.specs.EditWithComments.{Becomes, EditsAs, IsWithCommentsError};
-ghost use Rattle.jsonptr_edit_with_comments.specs.Edits.{IsLaidOut};
-ghost use Rattle.jsonptr_edit_with_comments.specs.Patches.{PatchEdits};
+ghost use Rattle.jsonptr_edit_with_comments.specs.EditWithComments.{Becomes, IsWithCommentsError};
+ghost use Rattle.jsonptr_edit_with_comments.specs.Patches.{PatchEdits, CommentedPatchBytes, CommentedRawPatchBytes};
+ghost use Rattle.jsonptr_edit_with_comments.specs.PrivateStepping.{IsPatched};
 
-use crate::effect::Texts;
 use crate::error::{WithCommentsError, read_past};
-use crate::operate::{bare, operate};
-use crate::same::is_laid_out;
-use jsonptr_edit_in_text::laws::raw_patch_law;
-use jsonptr_edit_in_text::{
-    RawOperation, apply_raw_in_place, try_apply_raw_in_place, without_texts,
-};
+use crate::operate::operate;
+use crate::step::bare_of;
+use crate::texts::TextsBuf;
+use jsonptr_edit_in_text::{RawOperation, apply_raw_in_place, without_texts};
+use jsonptr_in_text::is_document;
 use jsonptr_json_edits::buffers::Buffers;
 use jsonptr_patch::{FailedOperation, Operation};
 use std::alloc::{AllocError, Global};
@@ -30,7 +30,8 @@ use std::alloc::{AllocError, Global};
 /// | `move` | all stay: a value with a comment in it, or beside it on its line, is not moved |
 /// | `test` | all stay |
 ///
-/// Each operation reads the text some ten times.
+/// Each operation reads the text some ten times, and takes the comments out of the new one once. A move counts as
+/// two.
 ///
 /// # Errors
 ///
@@ -63,14 +64,12 @@ pub fn apply_with_comments(
 ) -> Result<String, WithCommentsError<FailedOperation>>
     ensures applied { IfOk result (λ s. Becomes
         (λ old new. PatchesInText old operations.items new) text.now (string_bytes s)) }
-    ensures bytes { IfOk result (λ s. EditsAs
-        (λ old new. PatchBytes old operations.items new) text.now (string_bytes s)) }
+    ensures bytes { IfOk result (λ s. CommentedPatchBytes text.now operations.items (string_bytes s)) }
     ensures pieces { IfOk result (λ s. PatchEdits text.now operations.items (string_bytes s)) }
     ensures refused { IfErr result (IsWithCommentsError
         (λ old new. PatchesInText old operations.items new)
         (λ old e. IsPatchError old operations.items e) text.now) }
 {
-    raw_patch_law();
     let raw_operations = without_texts(alloc, operations)?;
     apply_raw_with_comments(alloc, buffers, text, raw_operations)
 }
@@ -104,8 +103,7 @@ pub fn apply_raw_with_comments(
 ) -> Result<String, WithCommentsError<FailedOperation>>
     ensures applied { IfOk result (λ s. Becomes
         (λ old new. PatchesInText old (operations_in operations.items) new) text.now (string_bytes s)) }
-    ensures bytes { IfOk result (λ s. EditsAs
-        (λ old new. RawPatchBytes old operations.items new) text.now (string_bytes s)) }
+    ensures bytes { IfOk result (λ s. CommentedRawPatchBytes text.now operations.items (string_bytes s)) }
     ensures pieces { IfOk result (λ s.
         PatchEdits text.now (operations_in operations.items) (string_bytes s)) }
     ensures refused { IfErr result (IsWithCommentsError
@@ -115,8 +113,8 @@ pub fn apply_raw_with_comments(
     if let Some(new) = try_apply_raw_with_comments(alloc, buffers, text, operations.as_slice())? {
         return Ok(new);
     }
-    let bare = read_past(alloc, text)?;
-    apply_raw_in_place(alloc, buffers, bare.as_str(), operations)?;
+    let read = read_past(alloc, text)?;
+    apply_raw_in_place(alloc, buffers, read.bare.as_str(), operations)?;
     Err(WithCommentsError::NotInPlace)
 }
 
@@ -145,66 +143,73 @@ pub fn try_apply_raw_with_comments(
 ) -> Result<Option<String>, AllocError>
     ensures applied { IfOk result (λ made. IfSome made (λ s. Becomes
         (λ old new. PatchesInText old (operations_in operations.now) new) text.now (string_bytes s))) }
-    ensures bytes { IfOk result (λ made. IfSome made (λ s. EditsAs
-        (λ old new. RawPatchBytes old operations.now new) text.now (string_bytes s))) }
+    ensures bytes { IfOk result (λ made. IfSome made
+        (λ s. CommentedRawPatchBytes text.now operations.now (string_bytes s))) }
     ensures pieces { IfOk result (λ made. IfSome made
         (λ s. PatchEdits text.now (operations_in operations.now) (string_bytes s))) }
 {
-    let Some(bare) = bare(alloc, text)? else {
+    let Some(bare) = bare_of(alloc, text)? else {
         return Ok(None);
     };
-    let old = bare.as_str();
-    let Some(new) = try_apply_raw_in_place(alloc, buffers, old, operations)? else {
+    let texts = TextsBuf {
+        text: String::from_str(alloc, text)?,
+        bare,
+    };
+    let Some(new) = operate_all(buffers, texts, operations)? else {
         return Ok(None);
     };
-    let texts = Texts {
-        text,
-        old,
-        new: new.as_str(),
-    };
-    edit_in_turn(alloc, buffers, texts, operations)
+    let TextsBuf { text: made, .. } = new;
+    Ok(Some(made))
 }
 
-/// Makes the edits of the operations, one after the other. Returns `None` if one is not made, or if the
-/// text then has not the tokens that it is to have.
+/// Applies the operations in order. Returns `None` if one is not possible, or if the text without comments is not
+/// a document.
 ///
 /// # Errors
 ///
 /// [`AllocError`] if an allocation fails.
-fn edit_in_turn(
-    alloc: Global,
+fn operate_all(
     buffers: &mut Buffers,
-    texts: Texts<'_>,
+    texts: TextsBuf,
     operations: &[RawOperation],
-) -> Result<Option<String>, AllocError>
-    ensures laid_out { IfOk result
-        (λ made. IfSome made (λ s. IsLaidOut texts.entry.new.now (string_bytes s))) }
-    ensures pieces { IfOk result (λ made. IfSome made
-        (λ s. PatchEdits texts.entry.text.now (operations_in operations.now) (string_bytes s))) }
+) -> Result<Option<TextsBuf>, AllocError>
+    requires { IsWithoutComments (string_bytes texts.text) (string_bytes texts.bare) }
+    ensures { IfOk result (λ made. IfSome made (λ new. IsPatched (string_bytes texts.text)
+        (string_bytes texts.bare) operations.now (string_bytes new.text) (string_bytes new.bare))) }
 {
-    let Some(made) = all_edits(alloc, buffers, texts.text, operations)? else {
+    let Some((first, rest)) = operations.split_first() else {
+        return unchanged(buffers, texts);
+    };
+    let Some(next) = operate(buffers, texts, first)? else {
         return Ok(None);
     };
-    if is_laid_out(alloc, buffers, texts.new, made.as_str())? {
-        Ok(Some(made))
-    } else {
-        Ok(None)
-    }
+    operate_rest(buffers, next, rest)
 }
 
-/// Makes the edits of the operations, one after the other. Returns `None` if one is not made.
-fn all_edits(
-    alloc: Global,
-    buffers: &mut Buffers,
-    text: &str,
-    operations: &[RawOperation],
-) -> Result<Option<String>, AllocError>
-    ensures { IfOk result (λ made. IfSome made
-        (λ s. PatchEdits text.now (operations_in operations.now) (string_bytes s))) }
+/// Returns the texts, if the one without comments is a document.
+fn unchanged(buffers: &mut Buffers, texts: TextsBuf) -> Result<Option<TextsBuf>, AllocError>
+    requires { IsWithoutComments (string_bytes texts.text) (string_bytes texts.bare) }
+    ensures { IfOk result (λ made. IfSome made (λ new. IsPatched (string_bytes texts.text)
+        (string_bytes texts.bare) [] (string_bytes new.text) (string_bytes new.bare))) }
 {
-    let mut current = String::from_str(alloc, text)?;
+    let is_json = is_document(&mut buffers.old, texts.bare.as_str())?;
+    if is_json { Ok(Some(texts)) } else { Ok(None) }
+}
+
+/// Applies the operations in order to the text, which is a document without its comments.
+fn operate_rest(
+    buffers: &mut Buffers,
+    texts: TextsBuf,
+    operations: &[RawOperation],
+) -> Result<Option<TextsBuf>, AllocError>
+    requires { IsWithoutComments (string_bytes texts.text) (string_bytes texts.bare) }
+    ensures { (d : Data) → read (string_bytes texts.bare) ≡ Some d → IfOk result (λ made. IfSome made
+        (λ new. IsPatched (string_bytes texts.text) (string_bytes texts.bare) operations.now
+        (string_bytes new.text) (string_bytes new.bare))) }
+{
+    let mut current = texts;
     'operations: for operation in operations {
-        let Some(next) = operate(alloc, buffers, current, operation)? else {
+        let Some(next) = operate(buffers, current, operation)? else {
             return Ok(None);
         };
         current = next;

@@ -10,11 +10,11 @@ ghost use Rattle.jsonptr_edit_in_text.specs.EditInText.{AssignsInText, IsAssignE
 ghost use Rattle.jsonptr_edit_with_comments.specs.EditWithComments.{Becomes, EditsAs, IsWithCommentsError};
 ghost use Rattle.jsonptr_edit_with_comments.specs.Edits.{IsOneEdit};
 
-use crate::effect::Texts;
 use crate::error::{WithCommentsError, read_past};
-use crate::put::put_edit;
+use crate::step::take_commented_step;
+use crate::texts::{Texts, TextsBuf};
 use jsonptr::{Pointer, assign};
-use jsonptr_edit_in_text::{RawValue, assign_in_place, assign_raw_in_place};
+use jsonptr_edit_in_text::{RawValue, Step, assign_in_place, assign_raw_in_place};
 use jsonptr_json_edits::buffers::Buffers;
 use serde_json::Value;
 use std::alloc::Global;
@@ -30,8 +30,8 @@ use std::alloc::Global;
 /// A list over lines with a trailing comma has one after the edit, and others have none. An empty
 /// container keeps its comments, and the new child comes after them.
 ///
-/// Reads the text with comments and the result twice, and both without comments, beside what
-/// [`assign_in_place`] reads. Where a value is replaced, also finds it, as
+/// Takes the comments out of the text and of the result, once each, and reads both new texts without comments
+/// once, beside what [`assign_in_place`] reads. Where a value is replaced, also finds it, as
 /// [`locate_in_text`](jsonptr_edit_in_text::locate_in_text) does.
 ///
 /// # Errors
@@ -70,18 +70,13 @@ pub fn assign_with_comments(
         (λ old new. AssignsInText old (tokens pointer.entry) (nodes (view value)) new)
         (λ old e. IsAssignError old (tokens pointer.entry) (view value) e) text.now) }
 {
-    let bare = read_past(alloc, text)?;
-    let old = bare.as_str();
-    let new = assign_in_place(alloc, buffers, old, pointer, value)?;
-    let texts = Texts {
-        text,
-        old,
-        new: new.as_str(),
+    let Some(raw) = RawValue::from_value(alloc, &value)? else {
+        // The value nests too deep to be read, so no text with it can be.
+        let read = read_past(alloc, text)?;
+        assign_in_place(alloc, buffers, read.bare.as_str(), pointer, value)?;
+        return Err(WithCommentsError::NotInPlace);
     };
-    match put_edit(alloc, buffers, texts, pointer)? {
-        Some(made) => Ok(made),
-        None => Err(WithCommentsError::NotInPlace),
-    }
+    assign_raw_with_comments(alloc, buffers, text, pointer, &raw)
 }
 
 /// Assigns the value with its own text at the pointer, as [`assign_with_comments`] does: with its members
@@ -118,16 +113,16 @@ pub fn assign_raw_with_comments(
         (λ old new. AssignsInText old (tokens pointer.entry) (nodes (value_of_raw raw.now)) new)
         (λ old e. IsAssignError old (tokens pointer.entry) (value_of_raw raw.now) e) text.now) }
 {
-    let bare = read_past(alloc, text)?;
-    let old = bare.as_str();
-    let new = assign_raw_in_place(alloc, buffers, old, pointer, raw)?;
+    let read = read_past(alloc, text)?;
     let texts = Texts {
         text,
-        old,
-        new: new.as_str(),
+        bare: read.bare.as_str(),
     };
-    match put_edit(alloc, buffers, texts, pointer)? {
-        Some(made) => Ok(made),
-        None => Err(WithCommentsError::NotInPlace),
+    let step = Step::Assign(pointer, raw);
+    if let Some(new) = take_commented_step(buffers, texts, step)? {
+        let TextsBuf { text: made, .. } = new;
+        return Ok(made);
     }
+    assign_raw_in_place(alloc, buffers, texts.bare, pointer, raw)?;
+    Err(WithCommentsError::NotInPlace)
 }

@@ -7,7 +7,7 @@ ghost use Rattle.jsonptr_edit_with_comments.specs.PrivateChecking.{IsChanged};
 
 use crate::child::{Child, is_removal};
 use crate::draft::{Draft, is_addition, is_framed};
-use crate::effect::Texts;
+use crate::texts::Texts;
 use crate::value::is_replacement;
 use jsonptr::Pointer;
 use jsonptr_json_edits::buffers::Buffers;
@@ -56,18 +56,17 @@ pub struct Change {
 ///
 /// [`AllocError`] if an allocation fails.
 pub fn changed(
-    alloc: Global,
     buffers: &mut Buffers,
     texts: Texts<'_>,
     pointer: Pointer<'_>,
     change: &Change,
 ) -> Result<Option<String>, AllocError>
-    requires { IsWithoutComments texts.text.now texts.old.now }
+    requires { IsWithoutComments texts.text.now texts.bare.now }
     ensures { IfOk result (λ made. IfSome made
         (λ s. IsOneEdit texts.entry.text.now (tokens pointer.entry) (string_bytes s))) }
 {
     let (comma, added) = span_of(change.comma, change.replaced.from);
-    let Some(made) = joined(alloc, texts.text, comma, added, change)? else {
+    let Some(made) = joined(buffers.alloc, texts.text, comma, added, change)? else {
         return Ok(None);
     };
     let start = change
@@ -77,7 +76,7 @@ pub fn changed(
         .saturating_sub(comma.to.saturating_sub(comma.from));
     let draft = Draft {
         text: texts.text,
-        bare: texts.old,
+        bare: texts.bare,
         made: made.as_str(),
         pointer,
         comma,
@@ -94,7 +93,7 @@ pub fn changed(
     if !is_framed(&draft) {
         return Ok(None);
     }
-    if is_made(alloc, buffers, &draft, &change.kind)? {
+    if is_made(buffers, &draft, &change.kind)? {
         Ok(Some(made))
     } else {
         Ok(None)
@@ -106,20 +105,15 @@ pub fn changed(
 /// # Errors
 ///
 /// [`AllocError`] if an allocation fails.
-fn is_made(
-    alloc: Global,
-    buffers: &mut Buffers,
-    draft: &Draft<'_>,
-    kind: &Kind,
-) -> Result<bool, AllocError>
+fn is_made(buffers: &mut Buffers, draft: &Draft<'_>, kind: &Kind) -> Result<bool, AllocError>
     ensures { IfOk result (λ b. IsTrue b → IsChanged draft.now.bare.now (tokens draft.now.pointer)
         draft.now.text.now draft.now.replaced.from draft.now.replaced.to
         draft.now.made.now draft.now.new.from draft.now.new.to) }
 {
     match kind {
         Kind::Space => Ok(is_addition(draft)),
-        Kind::Value(depth) => is_replacement(alloc, buffers, draft, *depth),
-        Kind::Child(child) => is_removal(alloc, buffers, draft, child),
+        Kind::Value(depth) => is_replacement(buffers, draft, *depth),
+        Kind::Child(child) => is_removal(buffers, draft, child),
     }
 }
 

@@ -12,7 +12,7 @@ use jsonptr_json_edits::buffers::Buffers;
 use jsonptr_json_edits::child::one_child;
 use jsonptr_json_edits::locate::{Extent, Span};
 use jsonptr_json_edits::spacing::{is_blank, is_comma, is_space};
-use std::alloc::{AllocError, Global};
+use std::alloc::AllocError;
 
 /// A child that is removed.
 #[derive(Debug, Drop)]
@@ -32,7 +32,6 @@ pub struct Child {
 ///
 /// [`AllocError`] if an allocation fails.
 pub fn is_removal(
-    alloc: Global,
     buffers: &mut Buffers,
     draft: &Draft<'_>,
     child: &Child,
@@ -44,7 +43,7 @@ pub fn is_removal(
     if !are_runs(draft, child.extent.child, child.kept) {
         return Ok(false);
     }
-    is_child_at(alloc, buffers, draft, child)
+    is_child_at(buffers, draft, child)
 }
 
 /// Returns whether what is replaced is pieces without a comment, the child, pieces without a line break, those
@@ -101,12 +100,7 @@ fn are_runs(draft: &Draft<'_>, child: Span, kept: Span) -> bool
 }
 
 /// Returns whether the text without comments has the child there, to whose value the pointer leads.
-fn is_child_at(
-    alloc: Global,
-    buffers: &mut Buffers,
-    draft: &Draft<'_>,
-    child: &Child,
-) -> Result<bool, AllocError>
+fn is_child_at(buffers: &mut Buffers, draft: &Draft<'_>, child: &Child) -> Result<bool, AllocError>
     ensures { IfOk result (λ b. IsTrue b → IsChildAt draft.now.bare.now (tokens draft.now.pointer)
         draft.now.replaced.from child.now.extent.child.from child.now.extent.child.to draft.now.replaced.to) }
 {
@@ -119,7 +113,7 @@ fn is_child_at(
     let Some(value) = value_of(buffers, cut.child, child)? else {
         return Ok(false);
     };
-    let Some(located) = find_value(alloc, buffers, draft.bare, draft.pointer)? else {
+    let Some(located) = find_value(buffers, draft.bare, draft.pointer)? else {
         return Ok(false);
     };
     let from = child.extent.child.to.saturating_sub(value.len());

@@ -6,11 +6,11 @@ ghost use Rattle.jsonptr_edit_in_text.specs.EditInText.{DeletesInText};
 ghost use Rattle.jsonptr_edit_with_comments.specs.EditWithComments.{Becomes, EditsAs, Lacks, IsDeleteError};
 ghost use Rattle.jsonptr_edit_with_comments.specs.Edits.{IsOneEdit};
 
-use crate::effect::Texts;
 use crate::error::{WithCommentsError, read_past};
-use crate::put::put_edit;
+use crate::step::take_commented_step;
+use crate::texts::{Texts, TextsBuf};
 use jsonptr::Pointer;
-use jsonptr_edit_in_text::delete_in_place;
+use jsonptr_edit_in_text::{Step, delete_in_place};
 use jsonptr_json_edits::buffers::Buffers;
 use std::alloc::Global;
 use std::convert::Infallible;
@@ -54,18 +54,17 @@ pub fn delete_with_comments(
         (λ s. IsOneEdit text.now (tokens pointer.entry) (string_bytes s))) }
     ensures refused { IfErr result (IsDeleteError text.now (tokens pointer.entry)) }
 {
-    let bare = read_past(alloc, text)?;
-    let old = bare.as_str();
-    let Some(new) = delete_in_place(alloc, buffers, old, pointer)? else {
-        return Ok(None);
-    };
+    let read = read_past(alloc, text)?;
     let texts = Texts {
         text,
-        old,
-        new: new.as_str(),
+        bare: read.bare.as_str(),
     };
-    match put_edit(alloc, buffers, texts, pointer)? {
-        Some(made) => Ok(Some(made)),
-        None => Err(WithCommentsError::NotInPlace),
+    if let Some(new) = take_commented_step(buffers, texts, Step::Delete(pointer))? {
+        let TextsBuf { text: made, .. } = new;
+        return Ok(Some(made));
+    }
+    match delete_in_place(alloc, buffers, texts.bare, pointer)? {
+        Some(_new) => Err(WithCommentsError::NotInPlace),
+        None => Ok(None),
     }
 }

@@ -6,11 +6,10 @@ ghost use Rattle.jsonptr_edit_with_comments.specs.EditWithComments.{IsReadPastEr
 ghost use Rattle.jsonptr_edit_with_comments.specs.declared.error.WithCommentsError.TheVariants.{Memory};
 
 use jsonptr::Fault;
-use jsonptr_comments::{CommentError, without_comments};
+use jsonptr_comments::{CommentError, CommentedText};
 use jsonptr_edit_in_text::{EditError, InPlaceError};
 use jsonptr_value::{MAX_DEPTH, ReadError};
 use std::alloc::{AllocError, Global};
-use std::borrow::CowStr;
 use std::fmt::Display;
 use thiserror::Error;
 
@@ -85,18 +84,21 @@ impl<E> From<InPlaceError<ReadError>> for WithCommentsError<E> {
     }
 }
 
-/// Returns the text without its comments.
+/// Takes the comments out of the text.
 ///
 /// # Errors
 ///
 /// [`WithCommentsError::Comment`] if a block comment is not closed, and [`WithCommentsError::Memory`] if
 /// an allocation fails.
-pub(crate) fn read_past<E>(alloc: Global, text: &str) -> Result<CowStr<'_>, WithCommentsError<E>>
-    ensures without { IfOk result (λ old. IsWithoutComments text.now (cow_str_bytes old)) }
+pub(crate) fn read_past<E>(
+    alloc: Global,
+    text: &str,
+) -> Result<CommentedText<'_>, WithCommentsError<E>>
+    ensures without { IfOk result (λ read. IsWithoutComments text.now (cow_str_bytes read.bare)) }
     ensures refused { IfErr result (IsReadPastError text.now) }
 {
-    match without_comments(alloc, text) {
-        Ok(old) => Ok(old),
+    match CommentedText::read(alloc, text) {
+        Ok(read) => Ok(read),
         Err(Fault::Refused(error)) => Err(WithCommentsError::Comment(error)),
         Err(Fault::Memory(error)) => Err(WithCommentsError::Memory(error)),
     }

@@ -1,7 +1,7 @@
 //! What is between two children of an array or an object: white space, comments, and a comma. These are
 //! hints: no contract says that they are right.
 
-use jsonptr_json_edits::layout::slice;
+use jsonptr_json_edits::layout::{Container, slice};
 
 /// What is between two offsets of a text, before, between or after children.
 #[derive(Clone, Copy, Debug)]
@@ -40,6 +40,17 @@ struct Scan {
     mode: Mode,
     /// Whether no line break was read yet.
     on_first_line: bool,
+}
+
+/// Returns the offset after the child before the position, or after the opening bracket.
+pub fn end_before(container: Container<'_>, position: usize) -> usize {
+    let before = position
+        .checked_sub(1)
+        .and_then(|index| container.children.get(index));
+    match before {
+        Some(child) => child.child.to,
+        None => container.span.from.saturating_add(1),
+    }
 }
 
 /// Returns what is between the offsets of the text.

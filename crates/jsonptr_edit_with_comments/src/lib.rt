@@ -15,30 +15,31 @@
 //!
 //! Each call makes three promises. *Meaning*: without its comments, the new text reads as the document
 //! that the call on documents makes. *Tokens*: without its comments, it has the tokens that the edit of
-//! the text without comments makes, one for one. *Comments*: all stay, in their order, except those in
-//! the value that is replaced or in the child that is removed, and those that follow this child on its
-//! line ([`comments_law`](laws::comments_law)).
+//! the text without comments makes, one for one; so has the text after each operation of a patch.
+//! *Comments*: all stay, in their order, except those in the value that is replaced or in the child that is
+//! removed, and those that follow this child on its line ([`comments_law`](laws::comments_law)).
 //!
 //! In the examples `rt` is the runtime that `main` and each test receive, and `alloc` is
 //! `rt.alloc()`, the allocator.
 #![tactic(auto)]
 
 mod add;
+mod adjust;
 mod apply;
 mod assign;
 mod change;
 mod child;
 mod delete;
 mod draft;
-mod effect;
 mod error;
 mod gap;
 pub mod laws;
 mod operate;
 mod part;
-mod put;
 mod remove;
 mod same;
+mod step;
+mod texts;
 mod value;
 
 pub use apply::{apply_raw_with_comments, apply_with_comments, try_apply_raw_with_comments};

@@ -1,203 +1,228 @@
 //! One operation of a patch in a text with comments (RFC 6902, section 4).
-ghost use Rattle.std.specs.Prelude.{IfOk, IfSome, string_bytes};
-ghost use Rattle.std.specs.Cow.{cow_str_bytes};
+ghost use Rattle.std.specs.Prelude.{◌≡◌, Option, Some, IfOk, IfSome, string_bytes};
+ghost use Rattle.serde_json.specs.Data.{Data};
+ghost use Rattle.serde_json.specs.Read.{read};
 ghost use Rattle.jsonptr.specs.Pointer.{tokens};
 ghost use Rattle.jsonptr_comments.specs.Comments.{IsWithoutComments};
-ghost use Rattle.jsonptr_edit_with_comments.specs.Edits.{IsOneEdit};
-ghost use Rattle.jsonptr_edit_with_comments.specs.Patches.{OperationEdits, IsMadeInTwo};
+ghost use Rattle.jsonptr_patch.specs.declared.operation.Operation.TheVariants.{Add, Remove, Replace, Move, Copy};
+ghost use Rattle.jsonptr_in_text.specs.InText.{FindsInText};
+ghost use Rattle.jsonptr_text_value.specs.Raw.{value_of_raw};
+ghost use Rattle.jsonptr_text_value.specs.Fitting.{IsRawTextOf};
+ghost use Rattle.jsonptr_edit_with_comments.specs.PrivateStepping.{IsStepped, IsOperated};
 
-use crate::effect::Texts;
-use crate::put::put_edit;
+use crate::step::take_commented_step;
+use crate::texts::{Texts, TextsBuf};
 use crate::value::find_value;
-use jsonptr::{Fault, Pointer};
-use jsonptr_comments::without_comments;
-use jsonptr_edit_in_text::{Located, RawOperation, RawValue, try_apply_raw_in_place};
+use jsonptr::Pointer;
+use jsonptr_edit_in_text::{Located, RawOperation, RawValue, Step, passes};
 use jsonptr_in_text::{Format, Scratch, format_text};
 use jsonptr_json_edits::buffers::Buffers;
-use jsonptr_patch::Operation;
+use jsonptr_patch::{Operation, is_proper_prefix};
 use jsonptr_value::{ReadError, if_json};
+use serde_json::Value;
 use std::alloc::{AllocError, Global};
-use std::borrow::CowStr;
-use std::slice;
 
-/// Makes the edit of the operation. Returns `None` if it is not made.
+/// Applies the operation to the text with comments. Returns `None` if that is not possible, and for each error of
+/// the operation.
 ///
 /// # Errors
 ///
 /// [`AllocError`] if an allocation fails.
 pub fn operate(
-    alloc: Global,
     buffers: &mut Buffers,
-    text: String,
+    texts: TextsBuf,
     operation: &RawOperation,
-) -> Result<Option<String>, AllocError>
-    ensures { IfOk result (λ made. IfSome made (λ s.
-        OperationEdits (string_bytes text) operation.now.operation (string_bytes s))) }
+) -> Result<Option<TextsBuf>, AllocError>
+    requires { IsWithoutComments (string_bytes texts.text) (string_bytes texts.bare) }
+    ensures { IfOk result (λ made. IfSome made (λ new. IsOperated (string_bytes texts.text)
+        (string_bytes texts.bare) operation.now.operation operation.now.raw
+        (string_bytes new.text) (string_bytes new.bare))) }
 {
-    let old = text.as_str();
+    let old = Texts {
+        text: texts.text.as_str(),
+        bare: texts.bare.as_str(),
+    };
+    let raw = &operation.raw;
     match &operation.operation {
-        Operation::Add { path, .. } => edit(alloc, buffers, old, operation, path.as_ptr()),
-        Operation::Remove { path } => edit(alloc, buffers, old, operation, path.as_ptr()),
-        Operation::Replace { path, .. } => edit(alloc, buffers, old, operation, path.as_ptr()),
-        Operation::Copy { from, path } => copy_value(
-            alloc,
-            buffers,
-            old,
-            from.as_ptr(),
-            path.as_ptr(),
-        ),
-        Operation::Move { from, path } => move_value(
-            alloc,
-            buffers,
-            old,
-            from.as_ptr(),
-            path.as_ptr(),
-        ),
-        Operation::Test { .. } => Ok(Some(text)),
+        Operation::Add { path, value } => {
+            let given = Given { value, raw };
+            add_given(buffers, old, path.as_ptr(), given)
+        }
+        Operation::Remove { path } => remove_value(buffers, old, path.as_ptr()),
+        Operation::Replace { path, value } => {
+            let given = Given { value, raw };
+            replace_given(buffers, old, path.as_ptr(), given)
+        }
+        Operation::Copy { from, path } => copy_value(buffers, old, from.as_ptr(), path.as_ptr()),
+        Operation::Move { from, path } => move_value(buffers, old, from.as_ptr(), path.as_ptr()),
+        Operation::Test { path, value } => {
+            if passes(buffers, old.bare, path.as_ptr(), value)? {
+                Ok(Some(texts))
+            } else {
+                Ok(None)
+            }
+        }
     }
 }
 
-/// Makes the edit of an operation that changes the text at the pointer alone.
-fn edit(
-    alloc: Global,
+/// A value that an operation brings.
+#[derive(Clone, Copy, Debug)]
+struct Given<'a> {
+    /// The value.
+    value: &'a Value,
+    /// Its own text, if there is one.
+    raw: &'a Option<RawValue>,
+}
+
+/// Adds the value at the pointer, with its own text if there is one.
+fn add_given(
     buffers: &mut Buffers,
-    text: &str,
-    operation: &RawOperation,
+    texts: Texts<'_>,
     pointer: Pointer<'_>,
-) -> Result<Option<String>, AllocError>
-    ensures { IfOk result (λ made. IfSome made
-        (λ s. IsOneEdit text.now (tokens pointer.entry) (string_bytes s))) }
+    given: Given<'_>,
+) -> Result<Option<TextsBuf>, AllocError>
+    requires texts { IsWithoutComments texts.text.now texts.bare.now }
+    requires given { IsRawTextOf given.value.now given.raw.now }
+    ensures { IfOk result (λ made. IfSome made (λ new. IsOperated texts.entry.text.now
+        texts.entry.bare.now (Add (tokens pointer.entry) given.entry.value.now) given.entry.raw.now
+        (string_bytes new.text) (string_bytes new.bare))) }
 {
-    let Some(bare) = bare(alloc, text)? else {
-        return Ok(None);
-    };
-    let old = bare.as_str();
-    let Some(new) = try_apply_raw_in_place(alloc, buffers, old, slice::from_ref(operation))? else {
-        return Ok(None);
-    };
-    let texts = Texts {
-        text,
-        old,
-        new: new.as_str(),
-    };
-    put_edit(alloc, buffers, texts, pointer)
+    match given.raw {
+        Some(raw) => {
+            let step = Step::Add(pointer, &raw.printed);
+            take_commented_step(buffers, texts, step)
+        }
+        None => {
+            let Some(raw) = RawValue::from_value(buffers.alloc, given.value)? else {
+                return Ok(None);
+            };
+            let step = Step::Add(pointer, &raw.printed);
+            take_commented_step(buffers, texts, step)
+        }
+    }
 }
 
-/// Returns the text without its comments, or `None` if a block comment is not closed.
-///
-/// # Errors
-///
-/// [`AllocError`] if an allocation fails.
-pub fn bare(alloc: Global, text: &str) -> Result<Option<CowStr<'_>>, AllocError>
-    ensures { IfOk result (λ found. IfSome found
-        (λ old. IsWithoutComments text.now (cow_str_bytes old))) }
+/// Replaces the value at the pointer, by the own text of the other value if there is one.
+fn replace_given(
+    buffers: &mut Buffers,
+    texts: Texts<'_>,
+    pointer: Pointer<'_>,
+    given: Given<'_>,
+) -> Result<Option<TextsBuf>, AllocError>
+    requires texts { IsWithoutComments texts.text.now texts.bare.now }
+    requires given { IsRawTextOf given.value.now given.raw.now }
+    ensures { IfOk result (λ made. IfSome made (λ new. IsOperated texts.entry.text.now
+        texts.entry.bare.now (Replace (tokens pointer.entry) given.entry.value.now) given.entry.raw.now
+        (string_bytes new.text) (string_bytes new.bare))) }
 {
-    match without_comments(alloc, text) {
-        Ok(bare) => Ok(Some(bare)),
-        Err(Fault::Refused(_error)) => Ok(None),
-        Err(Fault::Memory(error)) => Err(error),
+    match given.raw {
+        Some(raw) => {
+            let step = Step::Replace(pointer, &raw.printed);
+            take_commented_step(buffers, texts, step)
+        }
+        None => {
+            let Some(raw) = RawValue::from_value(buffers.alloc, given.value)? else {
+                return Ok(None);
+            };
+            let step = Step::Replace(pointer, &raw.printed);
+            take_commented_step(buffers, texts, step)
+        }
     }
+}
+
+/// Removes the value at the pointer.
+fn remove_value(
+    buffers: &mut Buffers,
+    texts: Texts<'_>,
+    pointer: Pointer<'_>,
+) -> Result<Option<TextsBuf>, AllocError>
+    requires { IsWithoutComments texts.text.now texts.bare.now }
+    ensures { (raw : Option RawValue) → IfOk result (λ made. IfSome made (λ new. IsOperated
+        texts.entry.text.now texts.entry.bare.now (Remove (tokens pointer.entry)) raw
+        (string_bytes new.text) (string_bytes new.bare))) }
+{
+    take_commented_step(buffers, texts, Step::Delete(pointer))
 }
 
 /// Adds the value at one pointer, without its comments, at another one.
 fn copy_value(
-    alloc: Global,
     buffers: &mut Buffers,
-    text: &str,
+    texts: Texts<'_>,
     from: Pointer<'_>,
     path: Pointer<'_>,
-) -> Result<Option<String>, AllocError>
-    ensures { IfOk result (λ made. IfSome made
-        (λ s. IsOneEdit text.now (tokens path.entry) (string_bytes s))) }
+) -> Result<Option<TextsBuf>, AllocError>
+    requires { IsWithoutComments texts.text.now texts.bare.now }
+    ensures { (raw : Option RawValue) → IfOk result (λ made. IfSome made (λ new. IsOperated
+        texts.entry.text.now texts.entry.bare.now (Copy (tokens from.entry) (tokens path.entry)) raw
+        (string_bytes new.text) (string_bytes new.bare))) }
 {
-    let Some(add) = addition_of(alloc, buffers, text, from, path)? else {
+    let Some(value) = value_at(buffers, texts, from)? else {
         return Ok(None);
     };
-    edit(alloc, buffers, text, &add, path)
+    take_commented_step(buffers, texts, Step::Add(path, &value.printed))
 }
 
 /// Removes the value at one pointer, and adds it at another one. Returns `None` also if a comment goes
 /// with it.
 fn move_value(
-    alloc: Global,
     buffers: &mut Buffers,
-    text: &str,
+    texts: Texts<'_>,
     from: Pointer<'_>,
     path: Pointer<'_>,
-) -> Result<Option<String>, AllocError>
-    ensures { IfOk result (λ made. IfSome made
-        (λ s. IsMadeInTwo text.now (tokens from.entry) (tokens path.entry) (string_bytes s))) }
+) -> Result<Option<TextsBuf>, AllocError>
+    requires { IsWithoutComments texts.text.now texts.bare.now }
+    ensures { (raw : Option RawValue) → IfOk result (λ made. IfSome made (λ new. IsOperated
+        texts.entry.text.now texts.entry.bare.now (Move (tokens from.entry) (tokens path.entry)) raw
+        (string_bytes new.text) (string_bytes new.bare))) }
 {
-    let Some(add) = addition_of(alloc, buffers, text, from, path)? else {
+    if is_proper_prefix(from, path) {
         return Ok(None);
-    };
-    let Some(left) = removed(alloc, buffers, text, from)? else {
-        return Ok(None);
-    };
-    edit(alloc, buffers, left.as_str(), &add, path)
-}
-
-/// Removes the value at the pointer. Returns `None` also if a comment goes with it.
-fn removed(
-    alloc: Global,
-    buffers: &mut Buffers,
-    text: &str,
-    pointer: Pointer<'_>,
-) -> Result<Option<String>, AllocError>
-    ensures { IfOk result (λ made. IfSome made
-        (λ s. IsOneEdit text.now (tokens pointer.entry) (string_bytes s))) }
-{
-    let path = pointer.to_buf(alloc)?;
-    let remove = RawOperation::new(Operation::Remove { path });
-    let Some(left) = edit(alloc, buffers, text, &remove, pointer)? else {
-        return Ok(None);
-    };
-    if has_all_comments(alloc, text, left.as_str())? {
-        Ok(Some(left))
-    } else {
-        Ok(None)
     }
+    let Some(value) = value_at(buffers, texts, from)? else {
+        return Ok(None);
+    };
+    let Some(left) = take_commented_step(buffers, texts, Step::Delete(from))? else {
+        return Ok(None);
+    };
+    let rest = Texts {
+        text: left.text.as_str(),
+        bare: left.bare.as_str(),
+    };
+    if comment_length(texts) != comment_length(rest) {
+        return Ok(None);
+    }
+    take_commented_step(buffers, rest, Step::Add(path, &value.printed))
 }
 
-/// Returns whether the texts have as many bytes of comments.
-fn has_all_comments(alloc: Global, text: &str, left: &str) -> Result<bool, AllocError> {
-    let before = comment_length(alloc, text)?;
-    let after = comment_length(alloc, left)?;
-    Ok(before == after)
-}
-
-/// Returns the operation that adds the value at `from`, with its own text, at `path`. Returns `None` if
-/// there is no such value.
-fn addition_of(
-    alloc: Global,
+/// Returns the value that the pointer resolves to, with its own text. Returns `None` if there is no such value.
+///
+/// # Errors
+///
+/// [`AllocError`] if an allocation fails.
+fn value_at(
     buffers: &mut Buffers,
-    text: &str,
-    from: Pointer<'_>,
-    path: Pointer<'_>,
-) -> Result<Option<RawOperation>, AllocError> {
-    let Some(bare) = bare(alloc, text)? else {
+    texts: Texts<'_>,
+    pointer: Pointer<'_>,
+) -> Result<Option<RawValue>, AllocError>
+    ensures { IfOk result (λ found. IfSome found (λ raw.
+        FindsInText texts.entry.bare.now (tokens pointer.entry) (value_of_raw raw))) }
+{
+    let Some(located) = find_value(buffers, texts.bare, pointer)? else {
         return Ok(None);
     };
-    let Some(located) = find_value(alloc, buffers, bare.as_str(), from)? else {
-        return Ok(None);
-    };
-    let Some(raw) = if_json(own_value(alloc, text, located))? else {
-        return Ok(None);
-    };
-    let add = Operation::Add {
-        path: path.to_buf(alloc)?,
-        value: raw.to_value(alloc)?,
-    };
-    RawOperation::with_text(alloc, add, raw)
+    if_json(own_value(buffers.alloc, texts.text, located))
 }
 
 /// Returns the value with its own text: as it is written, or without white space if it has comments in
 /// the text.
-fn own_value(alloc: Global, text: &str, located: Located<'_>) -> Result<RawValue, ReadError> {
+fn own_value(alloc: Global, text: &str, located: Located<'_>) -> Result<RawValue, ReadError>
+    ensures { IfOk result (λ raw. (v : Data) → read located.entry.value.now ≡ Some v
+        → v ≡ value_of_raw raw) }
+{
     let from = located.before.len();
     let to = from.saturating_add(located.value.len());
     match text.get(from..to) {
-        Some(written) if written == located.value => return RawValue::parse(alloc, written),
+        Some(written) if written == located.value => return RawValue::parse(alloc, located.value),
         _ => {}
     }
     let mut scratch = Scratch::new(alloc);
@@ -206,15 +231,12 @@ fn own_value(alloc: Global, text: &str, located: Located<'_>) -> Result<RawValue
 }
 
 /// Returns how many bytes of the text are those of comments, white space and commas in them aside.
-fn comment_length(alloc: Global, text: &str) -> Result<usize, AllocError> {
-    let Some(bare) = bare(alloc, text)? else {
-        return Ok(0);
-    };
+fn comment_length(texts: Texts<'_>) -> usize {
     let mut length: usize = 0;
-    for (byte, left) in text.as_bytes().iter().zip(bare.as_bytes()) {
+    for (byte, left) in texts.text.as_bytes().iter().zip(texts.bare.as_bytes()) {
         if byte != left && *byte != b',' {
             length = length.saturating_add(1);
         }
     }
-    Ok(length)
+    length
 }

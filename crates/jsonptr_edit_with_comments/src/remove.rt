@@ -2,8 +2,8 @@
 //! that they are right.
 
 use crate::change::Comma;
-use crate::effect::{Family, Texts};
-use crate::gap::{Gap, gap_of};
+use crate::gap::{Gap, end_before, gap_of};
+use crate::texts::Texts;
 use jsonptr_json_edits::layout::{self, Container, slice};
 use jsonptr_json_edits::locate::Span;
 
@@ -27,7 +27,7 @@ struct Around<'t> {
     is_last: bool,
 }
 
-/// What is removed.
+/// What goes from a text with comments.
 #[derive(Clone, Copy, Debug)]
 pub struct Removed {
     /// A comma that goes, too.
@@ -40,12 +40,13 @@ pub struct Removed {
 }
 
 /// Returns what is removed with the child at the position, or `None` if that is not clear.
-pub fn removal(texts: Texts<'_>, family: &Family, position: usize) -> Option<Removed> {
-    let child = family.old.get(position)?.child;
-    let from = family.end_before(position);
-    let to = match family.old.get(position.saturating_add(1)) {
+pub fn removal(texts: Texts<'_>, container: Container<'_>, position: usize) -> Option<Removed> {
+    let children = container.children;
+    let child = children.get(position)?.child;
+    let from = end_before(container, position);
+    let to = match children.get(position.saturating_add(1)) {
         Some(next) => next.child.from,
-        None => family.container.to.saturating_sub(1),
+        None => container.span.to.saturating_sub(1),
     };
     let around = Around {
         text: texts.text,
@@ -54,14 +55,9 @@ pub fn removal(texts: Texts<'_>, family: &Family, position: usize) -> Option<Rem
         before: gap_of(texts.text, from, child.from),
         after: gap_of(texts.text, child.to, to),
         is_first: position == 0,
-        is_last: position.saturating_add(1) == family.old.len(),
+        is_last: position.saturating_add(1) == children.len(),
     };
     if around.is_plain() {
-        let container = Container {
-            text: texts.old,
-            span: family.container,
-            children: family.old.as_slice(),
-        };
         return around.alone(layout::removal(container, position)?);
     }
     around.removal()

@@ -1,37 +1,18 @@
 //! Texts with the same tokens.
 ghost use Rattle.std.specs.Prelude.{◌≡◌, IfOk, IsTrue};
 ghost use Rattle.json.specs.Lex.{tokens};
-ghost use Rattle.jsonptr_edit_with_comments.specs.Edits.{IsLaidOut};
 
 use json::Reader;
-use jsonptr::Fault;
-use jsonptr_comments::without_comments;
 use jsonptr_json_edits::buffers::Buffers;
 use jsonptr_json_edits::token::is_same;
-use std::alloc::{AllocError, Global};
+use std::alloc::AllocError;
 
-/// Returns whether the text without its comments has the tokens of `new`.
+/// Returns whether the texts have the same tokens.
 ///
 /// # Errors
 ///
 /// [`AllocError`] if an allocation fails.
-pub fn is_laid_out(
-    alloc: Global,
-    buffers: &mut Buffers,
-    new: &str,
-    text: &str,
-) -> Result<bool, AllocError>
-    ensures { IfOk result (λ b. IsTrue b → IsLaidOut new.now text.now) }
-{
-    match without_comments(alloc, text) {
-        Ok(json) => have_same_tokens(buffers, json.as_str(), new),
-        Err(Fault::Refused(_)) => Ok(false),
-        Err(Fault::Memory(error)) => Err(error),
-    }
-}
-
-/// Returns whether the texts have the same tokens.
-fn have_same_tokens(buffers: &mut Buffers, text: &str, other: &str) -> Result<bool, AllocError>
+pub fn have_same_tokens(buffers: &mut Buffers, text: &str, other: &str) -> Result<bool, AllocError>
     ensures { IfOk result (λ b. IsTrue b → tokens text.now ≡ tokens other.now) }
 {
     let mut one = Reader::new(text, &mut buffers.old)?;

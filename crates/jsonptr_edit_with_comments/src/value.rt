@@ -12,7 +12,7 @@ use jsonptr_comments::piece::Allowed;
 use jsonptr_edit_in_text::{LocateError, Located, locate_in_text_with};
 use jsonptr_json_edits::buffers::Buffers;
 use jsonptr_json_edits::locate::Span;
-use std::alloc::{AllocError, Global};
+use std::alloc::AllocError;
 
 /// Returns whether what is replaced is the value to which the first `depth` tokens of the pointer lead, and
 /// becomes pieces without a comment. If there are more tokens, it is a scalar.
@@ -21,7 +21,6 @@ use std::alloc::{AllocError, Global};
 ///
 /// [`AllocError`] if an allocation fails.
 pub fn is_replacement(
-    alloc: Global,
     buffers: &mut Buffers,
     draft: &Draft<'_>,
     depth: usize,
@@ -44,12 +43,11 @@ pub fn is_replacement(
     let Some((way, more)) = draft.pointer.split_at(depth) else {
         return Ok(false);
     };
-    is_value_at(alloc, buffers, draft, way, more.is_empty())
+    is_value_at(buffers, draft, way, more.is_empty())
 }
 
 /// Returns whether what is replaced is the value to which `way` leads: a scalar, unless `is_end`.
 fn is_value_at(
-    alloc: Global,
     buffers: &mut Buffers,
     draft: &Draft<'_>,
     way: Pointer<'_>,
@@ -58,7 +56,7 @@ fn is_value_at(
     ensures { IfOk result (λ b. IsTrue b → IsValueAt draft.now.bare.now (tokens way.entry) is_end
         draft.now.replaced.from draft.now.replaced.to) }
 {
-    let Some(located) = find_value(alloc, buffers, draft.bare, way)? else {
+    let Some(located) = find_value(buffers, draft.bare, way)? else {
         return Ok(false);
     };
     if !may_be_replaced(located.value, is_end) {
@@ -73,7 +71,6 @@ fn is_value_at(
 ///
 /// [`AllocError`] if an allocation fails.
 pub fn find_value<'t>(
-    alloc: Global,
     buffers: &mut Buffers,
     text: &'t str,
     pointer: Pointer<'_>,
@@ -81,6 +78,7 @@ pub fn find_value<'t>(
     ensures { IfOk result (λ found. IfSome found (λ l. IsLocated text.entry.now (tokens pointer.entry)
         l.before.now l.value.now l.after.now)) }
 {
+    let alloc = buffers.alloc;
     match locate_in_text_with(alloc, buffers, text, pointer) {
         Ok(located) => Ok(Some(located)),
         Err(LocateError::Memory(error)) => Err(error),

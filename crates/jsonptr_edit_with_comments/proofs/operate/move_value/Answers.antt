@@ -1,13 +1,27 @@
-use Rattle.std.proofs.Common.{Option, String, IfOk, IfSome, string_bytes, subst}
-use Rattle.std.specs.declared.alloc.Global.{Global}
-use Rattle.jsonptr.specs.Text.{Text}
+use Rattle.std.proofs.Common.{true≢false, string_bytes, sym, ◌∙◌}
 use Rattle.jsonptr.specs.Pointer.{tokens}
-use Rattle.jsonptr_edit_with_comments.specs.Edits.{IsOneEdit}
-use Rattle.jsonptr_edit_with_comments.proofs.PatchLemmas.{made_in_two}
+use Rattle.jsonptr_in_text.specs.InText.{FindsInText}
+use Rattle.jsonptr_patch.specs.Operating.{IsProperPrefix}
+use Rattle.jsonptr_text_value.specs.Raw.{value_of_raw}
+use Rattle.jsonptr_text_value.proofs.WrappingLemmas.{raw_reads}
+use Rattle.jsonptr_edit_in_text.specs.declared.step.Step.TheVariants.{Delete}
+use Rattle.jsonptr_edit_in_text.proofs.EditLemmas.{if_new}
+use Rattle.jsonptr_edit_with_comments.specs.PrivateStepping.{IsStepped}
+use Rattle.jsonptr_edit_with_comments.proofs.OperationLemmas.{moved, stepped_at}
 use Rattle.jsonptr_edit_with_comments.proofs.operate.move_value.Goals as goal
 
 pub returns : goal.returns
-returns c =
-    let cut = subst (λ (o : Option (String Global)). IfSome o (λ s. IsOneEdit c.args.text.now (tokens c.args.from) (string_bytes s))) c.in-Some-2.is c.in_ok-left.ensures in
-    made_in_two c.args.text.now (tokens c.args.from) (tokens c.args.path) (string_bytes c.in-Some-2.left) c.edit.result cut
-    (subst (λ (t : Text). IfOk c.edit.result (λ n. IfSome n (λ s. IsOneEdit t (tokens c.args.path) (string_bytes s)))) c.as_str.ensures.value c.edit.ensures)
+returns c = λ raw.
+    let text = c.args.texts.text.now in
+    let bare = c.args.texts.bare.now in
+    let value = c.in-Some.value in
+    let left = string_bytes c.in-Some-2.left.text in
+    let rest = string_bytes c.in-Some-2.left.bare in
+    let apart : IsProperPrefix (tokens c.args.from) (tokens c.args.path) → ⊥ = λ h. true≢false (sym (c.is_proper_prefix.ensures.1 h) ∙ c.if-is_proper_prefix.false) in
+    let found : FindsInText bare (tokens c.args.from) (value_of_raw value) = rw c.in-Some.is at c.in_ok-value.ensures in
+    let cut : IsStepped text bare (Delete c.args.from) left rest = rw c.in-Some-2.is at c.in_ok-left.ensures in
+    if_new c.take_commented_step-2.result _ _
+    (λ s h.
+    moved text bare left rest c.args.from c.args.path _ (value_of_raw value) raw _ _ apart (raw_reads value) found cut
+    (stepped_at left rest _ _ _ _ _ c.as_str.ensures.value c.as_str-2.ensures.value h))
+    c.take_commented_step-2.ensures
