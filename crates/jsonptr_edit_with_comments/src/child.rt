@@ -2,16 +2,15 @@
 ghost use Rattle.std.specs.Prelude.{IfOk, IfSome, IsTrue};
 ghost use Rattle.jsonptr.specs.Pointer.{tokens};
 ghost use Rattle.jsonptr_edit_with_comments.specs.PrivateChecking.{IsChanged, IsChildAt, IsChildCut, IsExactChild, BeginsChild, AreRunsOfChild};
-ghost use Rattle.jsonptr_json_edits.specs.Child.{HaveOneComma};
 
 use crate::draft::Draft;
 use crate::part::{Part, is_one_run, is_run};
 use crate::value::{find_value, is_at};
 use jsonptr_comments::piece::Allowed;
 use jsonptr_json_edits::buffers::Buffers;
-use jsonptr_json_edits::child::one_child;
+use jsonptr_json_edits::child::{have_one_comma, one_child};
 use jsonptr_json_edits::locate::{Extent, Span};
-use jsonptr_json_edits::spacing::{is_blank, is_comma, is_space};
+use jsonptr_json_edits::spacing::is_space;
 use std::alloc::AllocError;
 
 /// A child that is removed.
@@ -148,17 +147,6 @@ fn cut_around(text: &str, all: Span, child: Span) -> Option<ChildCut<'_>>
         trail,
         after,
     })
-}
-
-/// Returns whether both texts are white space, except for at most one comma in one of them.
-fn have_one_comma(lead: &str, trail: &str) -> bool
-    ensures { IsTrue result → HaveOneComma lead.now trail.now }
-{
-    if is_blank(lead) {
-        is_blank(trail) || is_comma(trail)
-    } else {
-        is_comma(lead) && is_blank(trail)
-    }
 }
 
 /// Returns the text of the value of the child, or `None` if the text is not exactly that of the child.
