@@ -41,6 +41,11 @@ OTHERS = {
         ("jsonptr_patch_document/src/error.rt", ["pointer_text"]),
     ],
     "differences": [("jsonptr_diff/src/difference.rt", ["diff", "change"])],
+    "merges": [
+        ("jsonptr_merge/src/patch.rt", ["merge_patch", "merge_patched"]),
+        ("jsonptr_merge/src/make.rt", ["make_merge_patch"]),
+        ("jsonptr_merge/src/three_way.rt", ["merge"]),
+    ],
     "resolving in text": [
         ("jsonptr_in_text/src/resolve.rt", ["resolve_in_text", "resolve_in_slice", "exists_in_text"]),
         ("jsonptr_in_text/src/format.rt", ["format_text"]),
