@@ -1,7 +1,9 @@
--- Where the undos of an editor lead, and where references lead. The values of settings in layers and of an overlay.
+-- Where the undos of an editor lead, and where references lead. The values of settings in layers and of an overlay, and
+-- the layer that a setting comes from.
 -- What a document is checked for. Sessions on texts. Why a patch document is not applied.
 pub mod Undoing
 pub mod Settings
+pub mod Layers
 pub mod References
 pub mod Checking
 pub mod Commented

@@ -3,6 +3,7 @@
 //!
 //! - [`writes`]: writing into documents.
 //! - [`settings`]: settings in layers.
+//! - [`layers`]: settings in layers by merge patches, and the layer that a setting comes from.
 //! - [`references`]: references inside a document.
 //! - [`checker`]: required members and their types.
 //! - [`nodes`]: the nodes of a document, counted, and read back from their lines.
@@ -49,6 +50,7 @@ pub mod handle_values;
 pub mod handles;
 pub mod in_text;
 pub mod json_lines;
+pub mod layers;
 pub mod merge;
 pub mod nodes;
 pub mod overlay;
