@@ -12,10 +12,10 @@ pub struct Made {
     pub plan: Plan,
 }
 
-/// What an edit did to a text. All offsets are ones of the text before it.
+/// What an edit did to a text. All offsets are in bytes of the text before the edit.
 #[derive(Debug, Drop)]
 pub enum Plan {
-    /// The text is as it was.
+    /// The text is unchanged.
     Unchanged,
     /// A value was replaced.
     Replaced(Replaced),
