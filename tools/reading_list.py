@@ -66,6 +66,7 @@ OTHERS = {
         ("jsonptr_comments/src/comments.rt", ["without_comments"]),
         ("jsonptr_edit_with_comments/src/assign.rt", ["assign_with_comments", "assign_raw_with_comments"]),
         ("jsonptr_edit_with_comments/src/delete.rt", ["delete_with_comments"]),
+        ("jsonptr_edit_with_comments/src/rename.rt", ["rename_with_comments"]),
         ("jsonptr_edit_with_comments/src/apply.rt", ["apply_with_comments", "apply_raw_with_comments", "try_apply_raw_with_comments"]),
     ],
     "numbers that lose digits": [

@@ -3,7 +3,7 @@ use Rattle.std.proofs.Common.{◌≡◌, ℕ, ◌+◌, ◌-◌, ◌<◌, ◌≤�
 use Rattle.std.specs.declared.alloc.AllocError.{AllocError}
 use Rattle.std.proofs.Math.Seq.{drop-length}
 use Rattle.std.proofs.lemmas.List.{drop-drop, drop_more}
-use Rattle.serde_json.specs.Data.{Data}
+use Rattle.serde_json.specs.Data.{Data, string as json_string}
 use Rattle.jsonptr.specs.Text.{Text}
 use Rattle.jsonptr_comments.specs.Comments.{Piece, other, Pieces, IsWithoutComments}
 use Rattle.jsonptr_comments.specs.Parts.{spelling, AreAllowed}
@@ -11,12 +11,12 @@ use Rattle.jsonptr_comments.specs.declared.piece.Allowed.{Allowed}
 use Rattle.jsonptr_comments.specs.declared.piece.Allowed.TheVariants.{Any, NoComment, Blank}
 use Rattle.jsonptr_comments.proofs.PartLemmas.{one_after, text_of_pieces, no_comments}
 use Rattle.jsonptr_json_edits.specs.Spacing.{IsBlank, IsSpaced}
-use Rattle.jsonptr_json_edits.specs.Child.{IsChildText, HaveOneComma, child_value}
+use Rattle.jsonptr_json_edits.specs.Child.{IsChildText, IsValueText, HaveOneComma, child_value}
 use Rattle.jsonptr_json_edits.specs.PrivateChild.{IsCutChild}
 use Rattle.jsonptr_edit_in_text.specs.Placing.{IsAt}
 use Rattle.jsonptr_edit_in_text.specs.Locating.{IsLocated}
-use Rattle.jsonptr_edit_with_comments.specs.Edits.{IsScalarText, IsOneEdit}
-use Rattle.jsonptr_edit_with_comments.specs.PrivateChecking.{IsSpan, AreFrom, IsRun, IsOneRun, IsComma, IsFramed, IsChanged, IsValueAt, IsChildAt, IsChildCut, IsExactChild, BeginsChild, AreRunsOfChild}
+use Rattle.jsonptr_edit_with_comments.specs.Edits.{IsScalarText, IsOneEdit, IsRenaming}
+use Rattle.jsonptr_edit_with_comments.specs.PrivateChecking.{IsSpan, AreFrom, IsRun, IsOneRun, IsComma, IsFramed, IsChanged, IsValueAt, IsChildAt, IsChildCut, IsExactChild, BeginsChild, AreRunsOfChild, AreRunsOfName, IsNameCut, IsNameAt}
 
 -- ---- what follows a part
 
@@ -281,6 +281,63 @@ child_at bare tokens from start end to before lead child trail after value lb lv
       exact = exact;
       is_at = subst (λ (r : Text). IsAt bare tokens value r) two.1 (subst (λ (v : Text). IsAt bare tokens v la) two.0 located.is_at);
     }
+
+-- ---- the name of a member
+
+pub name_at : (bare : Text) (tokens front : List Text) (x : Text) (from to start : ℕ) (before name colon after lb lv la : Text)
+    → tokens ≡ front ++ x ∷ [] → IsNameCut bare from to start before name colon after → IsSpaced 58 colon → IsValueText (json_string x) name
+    → IsLocated bare tokens lb lv la → start ≡ length lb → IsNameAt bare tokens from to
+name_at bare tokens front x from to start before name colon after lb lv la e cut spaced named located at =
+    let whole : bare ≡ (before ++ (name ++ colon)) ++ after = cut.bare_is ∙ simp append_assoc in
+    let one = same_front (before ++ (name ++ colon)) lb after (lv ++ la)
+    (omega (arith, at, cut.starts, cut.spans, cut.ends, length-append before (name ++ colon), length-append name colon)) (sym whole ∙ located.parts) in
+    record {
+      before = before;
+      name = name;
+      after = colon ++ after;
+      bare_is = cut.bare_is;
+      starts = cut.starts;
+      spans = cut.spans;
+      is_name = record {
+        front = front;
+        x = x;
+        tokens_are = e;
+        named = named;
+        colon = colon;
+        value = lv;
+        rest = la;
+        after_is = ap (λ (r : Text). colon ++ r) one.1;
+        spaced = spaced;
+        is_at = located.is_at;
+      };
+    }
+
+to_end : (t : Text) (ps : List Piece) → AreFrom t 0 ps (length t) → Pieces t ps []
+to_end t ps h = subst (λ (r : Text). Pieces t ps r) (drop-length t) h
+
+pub renaming : (text bare made : Text) (tokens : List Text) (from to from2 to2 : ℕ)
+    → IsWithoutComments text bare → AreRunsOfName text from to made from2 to2 → IsNameAt bare tokens from to → IsRenaming text tokens made
+renaming text bare made tokens from to from2 to2 w r n = record {
+  head = r.head.ps;
+  inner = r.was.ps;
+  new = r.is.ps;
+  tail = r.tail.ps;
+  text_is = to_end text (r.head.ps ++ (r.was.ps ++ r.tail.ps)) (joined text 0 from (length text) r.head.ps (r.was.ps ++ r.tail.ps) r.head.pieces (joined text from to (length text) r.was.ps r.tail.ps r.was.pieces r.tail.pieces));
+  made_is = to_end made (r.head.ps ++ (r.is.ps ++ r.tail.ps)) (joined made 0 from2 (length made) r.head.ps (r.is.ps ++ r.tail.ps) r.head.others (joined made from2 to2 (length made) r.is.ps r.tail.ps r.is.pieces r.tail.others));
+  nothing_lost = no_comments r.was.ps r.was.are;
+  fresh = no_comments r.is.ps r.is.are;
+  bare = bare;
+  without = w;
+  name = n.name;
+  under = record {
+    before = n.before;
+    after = n.after;
+    bare_is = n.bare_is;
+    starts = omega (arith, n.starts, end_of text 0 from r.head.ps r.head.span.order r.head.span.within r.head.pieces);
+    spans = omega (arith, n.spans, end_of text from to r.was.ps r.was.span.order r.was.span.within r.was.pieces);
+  };
+  is_name = n.is_name;
+}
 
 -- ---- results
 

@@ -8,7 +8,7 @@ use Rattle.jsonptr_comments.proofs.PartLemmas.{comments-append}
 use Rattle.jsonptr_comments.proofs.FirstLemmas.{unique}
 use Rattle.jsonptr_patch.specs.declared.operation.Operation.{Operation}
 use Rattle.jsonptr_patch.specs.declared.operation.Operation.TheVariants.{Add, Remove, Replace, Move, Copy, Test}
-use Rattle.jsonptr_edit_with_comments.specs.Edits.{IsCommaOrNone, IsChange, IsOneEdit}
+use Rattle.jsonptr_edit_with_comments.specs.Edits.{IsCommaOrNone, IsChange, IsOneEdit, IsRenaming}
 use Rattle.jsonptr_edit_with_comments.specs.Kept.{pieces_lost, lost, kept_before, kept_after, LeavesOut}
 use Rattle.jsonptr_edit_with_comments.specs.Patches.{IsMadeInTwo, OperationEdits, PatchEdits}
 
@@ -72,6 +72,19 @@ comments_after text tokens made e ps h =
     ap comments_of (same_pieces made ps (e.head ++ (e.added ++ (e.gap ++ (e.new ++ e.tail)))) h e.made_is)
     ∙ framed_comments e.head e.added e.gap e.new e.tail (no_comma_comment e.added e.put)
     ∙ ap (λ (r : List (List ℕ)). kept_before e ++ r) (sym (comments-append e.new e.tail))
+
+-- ---- another key
+
+-- pieces without a comment do not count
+unnamed_comments : (head name tail : List Piece) → comments_of name ≡ [] → comments_of (head ++ (name ++ tail)) ≡ comments_of head ++ comments_of tail
+unnamed_comments head name tail h = three head name tail ∙ ap (λ (r : List (List ℕ)). comments_of head ++ (r ++ comments_of tail)) h
+
+pub renaming_keeps : (text : Text) (tokens : List Text) (made : Text) (ps qs : List Piece) → IsRenaming text tokens made → Pieces text ps [] → Pieces made qs []
+    → comments_of qs ≡ comments_of ps
+renaming_keeps text tokens made ps qs r h k =
+    ap comments_of (same_pieces made qs (r.head ++ (r.new ++ r.tail)) k r.made_is)
+    ∙ unnamed_comments r.head r.new r.tail r.fresh
+    ∙ sym (ap comments_of (same_pieces text ps (r.head ++ (r.inner ++ r.tail)) h r.text_is) ∙ unnamed_comments r.head r.inner r.tail r.nothing_lost)
 
 -- ---- lists with some elements left out
 

@@ -1,12 +1,13 @@
 -- A text with comments before an edit and after it. Both are sequences of pieces: strings, comments, and other bytes.
 use Rattle.std.specs.Prelude.{◌≡◌, ◌≢◌, ◌⊎◌, List, [], ◌∷◌, ◌++◌, length, slice_index, Option}
 use Rattle.json.specs.Lex.{tokens}
-use Rattle.serde_json.specs.Data.{Data}
+use Rattle.serde_json.specs.Data.{Data, string}
 use Rattle.jsonptr.specs.Text.{Text}
 use Rattle.jsonptr_comments.specs.Comments.{Piece, other, Pieces, IsWithoutComments}
 use Rattle.jsonptr_comments.specs.Parts.{spelling, comments_of, AreAllowed}
 use Rattle.jsonptr_comments.specs.declared.piece.Allowed.TheVariants.{NoBreak, Blank}
-use Rattle.jsonptr_json_edits.specs.Child.{IsOneChild, value_part}
+use Rattle.jsonptr_json_edits.specs.Child.{IsOneChild, IsValueText, value_part}
+use Rattle.jsonptr_json_edits.specs.Spacing.{IsSpaced}
 use Rattle.jsonptr_edit_in_text.specs.Placing.{IsAt}
 
 -- `IsLaidOut new made`: without its comments, the text `made` has the tokens of the text `new`, one for one
@@ -95,3 +96,36 @@ pub record IsOneEdit (text : Text) (tokens : List Text) (made : Text) : Type 0 w
   pub bare : Text
   pub without : IsWithoutComments text bare
   pub what : IsChange bare tokens (head ++ (comma ++ gap)) inner new
+
+-- ---- another key
+
+-- `IsNameOf bare tokens name after`: in the text without comments, `bare`, the text `name` is one of the last of `tokens`, without
+-- white space around it. What follows it, `after`, is a colon and the own text of the value to which `tokens` lead
+pub record IsNameOf (bare : Text) (tokens : List Text) (name after : Text) : Type 0 where
+  pub front : List Text
+  pub x : Text
+  pub tokens_are : tokens ≡ front ++ x ∷ []
+  pub named : IsValueText (string x) name
+  pub colon : Text
+  pub value : Text
+  pub rest : Text
+  pub after_is : after ≡ colon ++ (value ++ rest)
+  pub spaced : IsSpaced 58 colon
+  pub is_at : IsAt bare tokens value rest
+
+-- `IsRenaming text tokens made`: the text `made` is `text` with the pieces `inner`, the name of the member at `tokens`, replaced by
+-- the pieces `new`. None of these is a comment, so all comments stay. `bare` is the text without comments
+pub record IsRenaming (text : Text) (tokens : List Text) (made : Text) : Type 0 where
+  pub head : List Piece
+  pub inner : List Piece
+  pub new : List Piece
+  pub tail : List Piece
+  pub text_is : Pieces text (head ++ (inner ++ tail)) []
+  pub made_is : Pieces made (head ++ (new ++ tail)) []
+  pub nothing_lost : HasNoComment inner
+  pub fresh : HasNoComment new
+  pub bare : Text
+  pub without : IsWithoutComments text bare
+  pub name : Text
+  pub under : IsUnder bare head inner name
+  pub is_name : IsNameOf bare tokens name under.after

@@ -9,7 +9,7 @@ use Rattle.jsonptr_comments.specs.declared.piece.Allowed.{Allowed}
 use Rattle.jsonptr_comments.specs.declared.piece.Allowed.TheVariants.{Any, NoComment, NoBreak}
 use Rattle.jsonptr_json_edits.specs.Child.{IsChildText, HaveOneComma, child_value}
 use Rattle.jsonptr_edit_in_text.specs.Placing.{IsAt}
-use Rattle.jsonptr_edit_with_comments.specs.Edits.{IsCommaOrNone, IsScalarText, IsChange}
+use Rattle.jsonptr_edit_with_comments.specs.Edits.{IsCommaOrNone, IsScalarText, IsChange, IsNameOf}
 
 -- `IsSpan text from to`: the offsets are in order, and in the text
 pub record IsSpan (text : Text) (from to : ℕ) : Type 0 where
@@ -121,3 +121,28 @@ pub record AreRunsOfChild (text : Text) (from start end kept_from kept_to to : �
   pub beside : IsRun NoBreak text end kept_from
   pub kept : IsOneRun text kept_from kept_to made from2 to2
   pub rest : IsRun NoComment text kept_to to
+
+-- `AreRunsOfName text from to made from2 to2`: between the offsets both texts are pieces without a comment. Before and after these
+-- both are the same pieces
+pub record AreRunsOfName (text : Text) (from to : ℕ) (made : Text) (from2 to2 : ℕ) : Type 0 where
+  pub head : IsOneRun text 0 from made 0 from2
+  pub was : IsRun NoComment text from to
+  pub is : IsRun NoComment made from2 to2
+  pub tail : IsOneRun text to (length text) made to2 (length made)
+
+-- `IsNameCut bare from to start before name colon after`: the text is cut at the offsets
+pub record IsNameCut (bare : Text) (from to start : ℕ) (before name colon after : Text) : Type 0 where
+  pub bare_is : bare ≡ before ++ (name ++ (colon ++ after))
+  pub starts : length before ≡ from
+  pub spans : from + length name ≡ to
+  pub ends : to + length colon ≡ start
+
+-- `IsNameAt bare tokens from to`: between the offsets is the name of the member at `tokens`
+pub record IsNameAt (bare : Text) (tokens : List Text) (from to : ℕ) : Type 0 where
+  pub before : Text
+  pub name : Text
+  pub after : Text
+  pub bare_is : bare ≡ before ++ (name ++ after)
+  pub starts : length before ≡ from
+  pub spans : from + length name ≡ to
+  pub is_name : IsNameOf bare tokens name after

@@ -1,5 +1,5 @@
 -- Words of private clauses: one edit, one operation, and operations of a patch, in a text with comments.
-use Rattle.std.specs.Prelude.{◌≡◌, List, Option}
+use Rattle.std.specs.Prelude.{◌≡◌, ◌⊎◌, List, Option}
 use Rattle.json.specs.Lex.{tokens as lexed}
 use Rattle.jsonptr.specs.Text.{Text}
 use Rattle.jsonptr.specs.Pointer.{tokens}
@@ -14,7 +14,7 @@ use Rattle.jsonptr_edit_in_text.specs.RawPatching.{GivenBytes}
 use Rattle.jsonptr_edit_in_text.specs.Steps.{StepsText, StepBytes}
 use Rattle.jsonptr_edit_in_text.specs.declared.step.Step.{Step}
 use Rattle.jsonptr_edit_in_text.specs.declared.step.Step.TheVariants.{Assign, Delete, Add, Replace, Rename}
-use Rattle.jsonptr_edit_with_comments.specs.Edits.{IsOneEdit}
+use Rattle.jsonptr_edit_with_comments.specs.Edits.{IsOneEdit, IsRenaming}
 use Rattle.jsonptr_edit_with_comments.specs.Patches.{OperatesAs, CommentedRawPatchBytes}
 
 -- `step_tokens step`: the tokens of the pointer at which the step edits
@@ -40,6 +40,14 @@ pub record IsStepped (text bare : Text) (step : Step) (made json : Text) : Type 
   pub stepped : StepsText bare step new
   pub bytes : StepBytes bare step new
   pub put : IsPutAs new text (step_tokens step) made json
+
+-- `IsRenamedAs new text ts made`: the text `made` is `text`, or that with the name of the member at the tokens `ts` replaced. Without
+-- comments it has the JSON tokens of `new`
+pub record IsRenamedAs (new text : Text) (ts : List Text) (made : Text) : Type 0 where
+  pub json : Text
+  pub without : IsWithoutComments made json
+  pub same : lexed json ≡ lexed new
+  pub piece : (made ≡ text) ⊎ IsRenaming text ts made
 
 -- `IsOperated text bare o raw made json`: the operation `o`, with the text of its value, makes `made` of `text`. Without comments
 -- `made` is `json`, and the operation makes that of `bare`

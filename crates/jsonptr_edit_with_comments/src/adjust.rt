@@ -18,7 +18,7 @@ use std::alloc::{AllocError, Global};
 /// [`AllocError`] if an allocation fails.
 pub fn adjusted(alloc: Global, texts: Texts<'_>, plan: Plan) -> Result<Option<Change>, AllocError> {
     match plan {
-        // No edit of this crate renames a member.
+        // A renaming changes a name alone: see `rename.rt`.
         Plan::Unchanged | Plan::Renamed(_) => Ok(None),
         Plan::Replaced(replaced) => Ok(Some(replacing(replaced))),
         Plan::Added(added) => Ok(Some(adding(alloc, texts, &added)?)),

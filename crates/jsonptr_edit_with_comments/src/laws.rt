@@ -4,13 +4,13 @@ ghost use Rattle.jsonptr.specs.Text.{Text};
 ghost use Rattle.jsonptr_comments.specs.Comments.{Piece, Pieces};
 ghost use Rattle.jsonptr_comments.specs.Parts.{comments_of};
 ghost use Rattle.jsonptr_patch.specs.declared.operation.Operation.{Operation};
-ghost use Rattle.jsonptr_edit_with_comments.specs.Edits.{IsOneEdit};
+ghost use Rattle.jsonptr_edit_with_comments.specs.Edits.{IsOneEdit, IsRenaming};
 ghost use Rattle.jsonptr_edit_with_comments.specs.Kept.{kept_before, lost, kept_after, LeavesOut};
 ghost use Rattle.jsonptr_edit_with_comments.specs.Patches.{PatchEdits};
 
 /// States that an edit keeps each comment, in its order, except those in the value that is replaced, or in the
 /// child that is removed and beside it on its line; and that a text after a patch has the comments of the text
-/// before it, in their order, with some left out.
+/// before it, in their order, with some left out. A text in which a member got another key has all of them.
 pub fn comments_law()
     ensures before { (text : Text) (tokens : List Text) (made : Text) (e : IsOneEdit text tokens made)
         (ps : List Piece) → Pieces text ps []
@@ -21,4 +21,7 @@ pub fn comments_law()
     ensures patch { (text made : Text) (os : List Operation) (ps qs : List Piece)
         → PatchEdits text os made → Pieces text ps [] → Pieces made qs []
         → LeavesOut (comments_of ps) (comments_of qs) }
+    ensures renamed { (text : Text) (tokens : List Text) (made : Text) (ps qs : List Piece)
+        → IsRenaming text tokens made → Pieces text ps [] → Pieces made qs []
+        → comments_of qs ≡ comments_of ps }
 {}

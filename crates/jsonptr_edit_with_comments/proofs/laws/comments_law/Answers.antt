@@ -1,4 +1,4 @@
-use Rattle.jsonptr_edit_with_comments.proofs.KeptLemmas.{comments_before, comments_after, patch_keeps}
+use Rattle.jsonptr_edit_with_comments.proofs.KeptLemmas.{comments_before, comments_after, patch_keeps, renaming_keeps}
 use Rattle.jsonptr_edit_with_comments.proofs.laws.comments_law.Goals as goal
 
 pub returns : goal.returns
@@ -6,4 +6,5 @@ returns c = record {
   before = comments_before;
   after = comments_after;
   patch = patch_keeps;
+  renamed = renaming_keeps;
 }
