@@ -5,6 +5,7 @@ from dataclasses import dataclass, field
 from typing import NamedTuple
 
 NEW_KEYS = [f"new{number}" for number in range(9)]
+RENAMED = ("new", "a/b", "~", "0", "// b", "/*", '"', "\u00e9", "")
 SCALARS = ("0", "-1.5", "true", "null", '"a"', '"// b"', '"/*"')
 
 
@@ -73,7 +74,7 @@ def lay_out(value, layout, level):
 
 def row_of(child, has_comma, layout, level):
     """Returns the text of a child, and of what is on its line."""
-    name = f"{json.dumps(child.key)}: " if child.key is not None else ""
+    name = f"{json.dumps(child.key, ensure_ascii=False)}: " if child.key is not None else ""
     comma = "," if has_comma else ""
     own = f" {child.own}" if child.own else ""
     after = own + comma if child.is_before_comma else comma + own
@@ -182,6 +183,15 @@ def edit(chance, root):
     return Operation(kind, path, fresh)
 
 
+def rename(chance, root):
+    """Gives a random member of a document another key. Returns the pointer of the member, and the key."""
+    tokens, container = chance.choice([it for it in containers_of(root, []) if it[1].is_object and it[1].children])
+    child = chance.choice(container.children)
+    path = pointer([*tokens, child.key])
+    child.key = chance.choice(RENAMED)
+    return path, child.key
+
+
 def patch_of(operations):
     """Returns the text of the patch document (RFC 6902) with these operations."""
     made = []
@@ -192,12 +202,15 @@ def patch_of(operations):
 
 
 def case(chance):
-    """Returns a random edit of a random file, or a patch of some edits."""
+    """Returns a random edit of a random file, or a patch of some edits, or the renaming of a member."""
     made = Files(chance)
     root = made.root()
     before, after = chance.choice(("", "// file" + made.layout.newline)), chance.choice(("", made.layout.newline))
     text = before + lay_out(root, made.layout, 0) + after
     new = copy.deepcopy(root)
+    if chance.random() < 0.2:
+        path, key = rename(chance, new)
+        return Case("rename", ("rename", text, path, key), before + lay_out(new, made.layout, 0) + after)
     operations = [edit(chance, new) for _ in range(chance.choice((1, 1, 2, 3, 5)))]
     wanted = before + lay_out(new, made.layout, 0) + after
     first = operations[0]

@@ -6,6 +6,7 @@ use jsonptr_comments::without_comments;
 use jsonptr_edit_in_text::Buffers;
 use jsonptr_edit_with_comments::{
     WithCommentsError, apply_with_comments, assign_with_comments, delete_with_comments,
+    rename_with_comments,
 };
 use jsonptr_patch_document::read_patch;
 use serde_json::Value;
@@ -22,6 +23,13 @@ pub fn request(out: &mut Out<'_>, buffers: &mut Buffers, mut words: Words<'_>) {
     match command {
         "read past" => read_past(out, text),
         "patch" => patch(out, buffers, text, argument),
+        "rename" => match Pointer::parse(pointer) {
+            Ok(pointer) => {
+                let made = rename_with_comments(out.alloc(), buffers, text, pointer, argument);
+                said(out, made)
+            }
+            Err(_) => out.unknown(),
+        },
         _ => match Pointer::parse(pointer) {
             Ok(pointer) => edit(out, buffers, text, pointer, argument),
             Err(_) => out.unknown(),
