@@ -10,6 +10,7 @@
 //! | `change` | a case of `tools/edits_in_text.py`: an edit, a text, a pointer, and an argument |
 //! | `toml` | a case of `tools/edits_in_toml.py`: an edit, a text, a pointer, and a value |
 //! | `comments` | a case of `tools/comments.py`: a call, a text, and for an edit a pointer and an argument |
+//! | `merge` | a case of `tools/merges.py`: a merge, and two documents or three |
 //! | `patch` | a case of `tools/patches.py`: a document and a patch document |
 //! | `relayout` | a case of `tools/relayouts.py`: the old text and the new one |
 //! | another | a request of `docs/COMPARING.md` |
@@ -26,6 +27,7 @@ mod edits;
 mod errors;
 mod failing_writer;
 mod in_text;
+mod merges;
 mod out;
 mod patches;
 mod pointers;
@@ -99,6 +101,7 @@ fn answer(out: &mut Out<'_>, buffers: &mut Buffers, scratch: &mut Scratch, mut w
         "change" => text_edits::compare(out, buffers, words),
         "toml" => toml_edits::request(out, words),
         "comments" => comments::request(out, buffers, words),
+        "merge" => merges::request(out, words),
         "patch" => patches::round(out, words),
         "relayout" => relayouts::request(out, words),
         request => requests::run(out, request, words),
