@@ -1,0 +1,3 @@
+pub mod EditLemmas
+pub mod PatchLemmas
+pub mod OutcomeLemmas

@@ -1,0 +1,163 @@
+//! An edit of a text by its kind.
+ghost use Rattle.std.specs.Prelude.{◌≡◌, IfOk, IfErr};
+ghost use Rattle.jsonptr.specs.Pointer.{tokens};
+ghost use Rattle.jsonptr.specs.Json.{nodes};
+ghost use Rattle.jsonptr_edit_in_text.specs.Bytes.{KeepsBytes, DeletesBytes};
+ghost use Rattle.jsonptr_edit_in_text.specs.EditInText.{edited_text, AssignsInText, DeletesInText};
+ghost use Rattle.jsonptr_edit_in_text.specs.Giving.{AssignsGiven};
+ghost use Rattle.jsonptr_edit_in_text.specs.PatchInText.{PatchesInText};
+ghost use Rattle.jsonptr_edit_in_text.specs.RawPatching.{RawPatchBytes};
+ghost use Rattle.jsonptr_edit_in_text.specs.Renaming.{RenamesInText, RenamesBytes};
+ghost use Rattle.jsonptr_text_value.specs.Operations.{operations_in};
+ghost use Rattle.jsonptr_text_value.specs.Raw.{value_of_raw};
+ghost use Rattle.jsonptr_text_edit.specs.Edits.{EditsText, EditBytes};
+ghost use Rattle.jsonptr_text_edit.specs.Errors.{FailsToAssign, FailsToDelete, FailsToRename, FailsToPatch, IsEditError};
+ghost use Rattle.jsonptr_text_edit.specs.PrivateErrors.{of_assign_error, of_read_error, of_rename_error};
+
+use crate::by_document::apply_and_print;
+use crate::edit::Edit;
+use crate::edit_error::EditError;
+use jsonptr::{Pointer, assign};
+use jsonptr_edit_in_text as in_text;
+use jsonptr_edit_in_text::{
+    RenameError, assign_raw_in_text_with, delete_in_text_with, rename_in_text,
+    try_apply_raw_in_place,
+};
+use jsonptr_json_edits::buffers::Buffers;
+use jsonptr_text_value::{PatchText, RawValue};
+use jsonptr_value::ReadError;
+
+/// Makes the edit in the text: in place if that is possible, and else in the document, which is printed.
+///
+/// # Errors
+///
+/// Those of [`edit_text`](crate::edit_text).
+pub fn make(
+    buffers: &mut Buffers,
+    text: &str,
+    edit: &Edit<'_>,
+) -> Result<in_text::Edited, EditError>
+    ensures edited { IfOk result (λ e. EditsText text.now edit.now (edited_text e)) }
+    ensures bytes { IfOk result (KeepsBytes (EditBytes text.now edit.now)) }
+    ensures refused { IfErr result (IsEditError text.now edit.now) }
+{
+    match edit {
+        Edit::Assign(pointer, raw) => assigned(buffers, text, *pointer, raw),
+        Edit::Delete(pointer) => deleted(buffers, text, *pointer),
+        Edit::Rename(pointer, key) => renamed(buffers, text, *pointer, key),
+        Edit::Patch(patch) => patched(buffers, text, patch),
+    }
+}
+
+/// Assigns the value at the pointer.
+fn assigned(
+    buffers: &mut Buffers,
+    text: &str,
+    pointer: Pointer<'_>,
+    raw: &RawValue,
+) -> Result<in_text::Edited, EditError>
+    ensures edited { IfOk result (λ e. AssignsInText text.now (tokens pointer.entry)
+        (nodes (value_of_raw raw.now)) (edited_text e)) }
+    ensures bytes { IfOk result
+        (KeepsBytes (AssignsGiven text.now (tokens pointer.entry) raw.now)) }
+    ensures refused { IfErr result (FailsToAssign text.now (tokens pointer.entry) raw.now) }
+{
+    let alloc = buffers.alloc;
+    match assign_raw_in_text_with(alloc, buffers, text, pointer, raw) {
+        Ok(edited) => Ok(edited),
+        Err(error) => Err(assign_error(error)),
+    }
+}
+
+/// Deletes the value that the pointer resolves to.
+fn deleted(
+    buffers: &mut Buffers,
+    text: &str,
+    pointer: Pointer<'_>,
+) -> Result<in_text::Edited, EditError>
+    ensures edited { IfOk result
+        (λ e. DeletesInText text.now (tokens pointer.entry) (edited_text e)) }
+    ensures bytes { IfOk result (KeepsBytes (DeletesBytes text.now (tokens pointer.entry))) }
+    ensures refused { IfErr result (FailsToDelete text.now (tokens pointer.entry)) }
+{
+    let alloc = buffers.alloc;
+    match delete_in_text_with(alloc, buffers, text, pointer) {
+        Ok(Some(edited)) => Ok(edited),
+        Ok(None) => Err(EditError::NotThere),
+        Err(error) => Err(read_error(error)),
+    }
+}
+
+/// Gives the member that the pointer resolves to another key.
+fn renamed(
+    buffers: &mut Buffers,
+    text: &str,
+    pointer: Pointer<'_>,
+    key: &str,
+) -> Result<in_text::Edited, EditError>
+    ensures edited { IfOk result
+        (λ e. RenamesInText text.now (tokens pointer.entry) key.now (edited_text e)) }
+    ensures bytes { IfOk result
+        (KeepsBytes (RenamesBytes text.now (tokens pointer.entry) key.now)) }
+    ensures refused { IfErr result (FailsToRename text.now (tokens pointer.entry) key.now) }
+{
+    let alloc = buffers.alloc;
+    match rename_in_text(alloc, buffers, text, pointer, key) {
+        Ok(edited) => Ok(edited),
+        Err(error) => Err(rename_error(error)),
+    }
+}
+
+/// Applies the patch.
+fn patched(
+    buffers: &mut Buffers,
+    text: &str,
+    patch: &PatchText,
+) -> Result<in_text::Edited, EditError>
+    ensures edited { IfOk result (λ e. PatchesInText text.now
+        (operations_in patch.now.operations.items) (edited_text e)) }
+    ensures bytes { IfOk result (KeepsBytes (RawPatchBytes text.now patch.now.operations.items)) }
+    ensures refused { IfErr result
+        (FailsToPatch text.now (operations_in patch.now.operations.items)) }
+{
+    let alloc = buffers.alloc;
+    let made = try_apply_raw_in_place(alloc, buffers, text, patch.operations.as_slice())?;
+    match made {
+        Some(new) => Ok(in_text::Edited::InPlace(new)),
+        None => Ok(in_text::Edited::Rewritten(apply_and_print(alloc, text, patch)?)),
+    }
+}
+
+/// Returns the error of an assignment.
+fn assign_error(error: in_text::EditError<assign::Error>) -> EditError
+    ensures { result ≡ of_assign_error error }
+{
+    match error {
+        in_text::EditError::NotJson => EditError::NotJson,
+        in_text::EditError::Refused(error) => EditError::Assign(error),
+        in_text::EditError::TooDeep => EditError::TooDeep,
+        in_text::EditError::Memory(error) => EditError::Memory(error),
+    }
+}
+
+/// Returns the error of a deletion.
+fn read_error(error: ReadError) -> EditError
+    ensures { result ≡ of_read_error error }
+{
+    match error {
+        ReadError::NotJson => EditError::NotJson,
+        ReadError::Memory(error) => EditError::Memory(error),
+    }
+}
+
+/// Returns the error of a member that gets another key.
+fn rename_error(error: in_text::EditError<RenameError>) -> EditError
+    ensures { result ≡ of_rename_error error }
+{
+    match error {
+        in_text::EditError::NotJson => EditError::NotJson,
+        in_text::EditError::Refused(error) => EditError::Rename(error),
+        in_text::EditError::TooDeep => EditError::TooDeep,
+        in_text::EditError::Memory(error) => EditError::Memory(error),
+    }
+}
