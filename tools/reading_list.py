@@ -56,6 +56,7 @@ OTHERS = {
         ("jsonptr_edit_in_text/src/rename.rt", ["rename_in_text"]),
         ("jsonptr_edit_in_text/src/locate.rt", ["locate_in_text"]),
     ],
+    "one edit of a text": [("jsonptr_text_edit/src/text.rt", ["edit_text"])],
     "documents as lines": [
         ("jsonptr_paths/src/listing.rt", ["list"]),
         ("jsonptr_paths/src/text_listing.rt", ["list_in_text"]),

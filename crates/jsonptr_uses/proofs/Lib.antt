@@ -5,6 +5,7 @@ mod RemovingLemmas
 mod PatchesLemmas
 mod PatchDocumentsLemmas
 mod SettingsLemmas
+mod SettingsInPlaceLemmas
 mod LayersLemmas
 mod ReferencesLemmas
 mod CheckingLemmas

@@ -3,6 +3,7 @@
 -- What a document is checked for. Sessions on texts. Why a patch document is not applied.
 pub mod Undoing
 pub mod Settings
+pub mod SettingsInPlace
 pub mod Layers
 pub mod References
 pub mod Checking

@@ -16,6 +16,7 @@
 //! - [`in_text`]: numbers and texts in the text of a document.
 //! - [`edits_in_text`]: two edits in the text of a document.
 //! - [`edits_in_place`]: edits of a text that change only their own bytes.
+//! - [`settings_in_place`]: several settings of a text, each set in place or not at all.
 //! - [`exact_texts`]: a document with sorted members, if no number loses digits.
 //! - [`given_texts`]: a patch that is applied with the texts of its values.
 //! - [`streams`]: a document from a reader to a writer.
@@ -63,6 +64,7 @@ pub mod references;
 pub mod relayouts;
 pub mod sessions;
 pub mod settings;
+pub mod settings_in_place;
 pub mod streams;
 pub mod tabled;
 pub mod toml_files;
