@@ -1,7 +1,8 @@
 //! Several settings of a text that people keep under version control, each set in place or not at all.
 ghost use Rattle.std.specs.Prelude.{◌≡◌, ◌∷◌, ◌++◌, [], IfOk, IfErr, string_bytes};
 ghost use Rattle.jsonptr_edit_in_text.specs.InPlace.{StaysOneLine};
-ghost use Rattle.jsonptr_uses.specs.SettingsInPlace.{AreSet, StopsAt};
+ghost use Rattle.jsonptr_text_edit.specs.Errors.{IsEditError};
+ghost use Rattle.jsonptr_uses.specs.SettingsInPlace.{AreSet, IsNext, StopsAt};
 
 use jsonptr_text_edit::{Buffers, Edit, EditError, edit_text};
 use std::alloc::AllocError;
@@ -30,27 +31,42 @@ pub fn set_in_place(
     ensures one_line { IfOk result (λ s. StaysOneLine (string_bytes text) (string_bytes s.text)) }
     ensures refused { IfErr result (StopsAt (string_bytes text) edits.now) }
 {
-    let mut current = text;
-    let mut is_set = Vec::new(buffers.alloc);
+    let is_set = Vec::new(buffers.alloc);
+    let mut settings = Settings { text, is_set };
     'edits: for edit in edits {
-        match edit_text(buffers, current.as_str(), edit)?.in_place() {
-            Some(new) => {
-                append(&mut is_set, true)?;
-                current = new;
-            }
-            None => append(&mut is_set, false)?,
-        }
+        settings = set_next(buffers, settings, edit)?;
     }
+    Ok(settings)
+}
+
+/// Makes the edit in place, or leaves it out.
+///
+/// # Errors
+///
+/// That of the edit, if it is not possible.
+fn set_next(
+    buffers: &mut Buffers,
+    settings: Settings,
+    edit: &Edit<'_>,
+) -> Result<Settings, EditError>
+    ensures set { IfOk result (λ s. IsNext (string_bytes settings.text) settings.is_set.items
+        edit.now s.is_set.items (string_bytes s.text)) }
+    ensures refused { IfErr result (IsEditError (string_bytes settings.text) edit.now) }
+{
+    let Settings { text, is_set } = settings;
+    let edited = edit_text(buffers, text.as_str(), edit)?;
+    let all = with(is_set, edited.is_in_place())?;
     Ok(Settings {
-        text: current,
-        is_set,
+        text: edited.in_place().unwrap_or(text),
+        is_set: all,
     })
 }
 
-/// Appends an answer.
-fn append(is_set: &mut Vec<bool>, is_made: bool) -> Result<(), AllocError>
-    ensures { IfOk result (λ _. is_set.new.items ≡ is_set.old.items ++ is_made ∷ []) }
+/// Returns the answers with one more.
+fn with(answers: Vec<bool>, answer: bool) -> Result<Vec<bool>, AllocError>
+    ensures { IfOk result (λ all. all.items ≡ answers.items ++ answer ∷ []) }
 {
-    is_set.push(is_made)?;
-    Ok(())
+    let mut all = answers;
+    all.push(answer)?;
+    Ok(all)
 }

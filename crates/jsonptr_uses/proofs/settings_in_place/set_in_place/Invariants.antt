@@ -5,5 +5,5 @@ use Rattle.jsonptr_uses.proofs.settings_in_place.set_in_place.Given as goal
 
 abbrev pub invariant-edits : goal.invariant-edits
 invariant-edits l =
-    AreSet (string_bytes l.fn.text) (take l.edit-index l.edits) l.is_set.items (string_bytes l.current)
-    × StaysOneLine (string_bytes l.fn.text) (string_bytes l.current)
+    AreSet (string_bytes l.fn.text) (take l.edit-index l.edits) l.settings.is_set.items (string_bytes l.settings.text)
+    × StaysOneLine (string_bytes l.fn.text) (string_bytes l.settings.text)
