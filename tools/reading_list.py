@@ -79,6 +79,8 @@ OTHERS = {
     "TOML text": [("jsonptr_in_toml/src/change.rt", ["resolve_in_toml", "assign_and_print_toml", "delete_and_print_toml"])],
     "edits in TOML text": [
         ("jsonptr_edit_in_toml/src/assign.rt", ["assign_in_toml"]),
+        ("jsonptr_edit_in_toml/src/assign_raw.rt", ["assign_raw_in_toml", "assign_raw_in_toml_in_place"]),
+        ("jsonptr_edit_in_toml/src/raw_value.rt", ["parse"]),
         ("jsonptr_edit_in_toml/src/delete.rt", ["delete_in_toml"]),
         ("jsonptr_edit_in_toml/src/in_place.rt", ["assign_in_toml_in_place", "delete_in_toml_in_place"]),
     ],

@@ -5,3 +5,4 @@ pub mod FailingLemmas
 pub mod PieceLemmas
 pub mod PairLemmas
 pub mod MadeLemmas
+pub mod GivingLemmas

@@ -2,3 +2,5 @@
 pub mod Bytes
 pub mod EditInToml
 pub mod Failing
+pub mod Giving
+pub mod RawValue

@@ -152,17 +152,21 @@ fn candidate_of(
 
 /// A value that becomes another one.
 #[derive(Clone, Copy, Debug)]
-struct Exchange<'v> {
+pub struct Exchange<'v> {
     /// The pointer that resolves to it.
-    pointer: Pointer<'v>,
+    pub pointer: Pointer<'v>,
     /// The value.
-    old: &'v Value,
+    pub old: &'v Value,
     /// The other value.
-    new: &'v Value,
+    pub new: &'v Value,
 }
 
 /// Returns the text with the text of the old value, or what makes it, replaced, if the plan is right.
-fn replaced(
+///
+/// # Errors
+///
+/// [`AllocError`] if an allocation fails.
+pub fn replaced(
     alloc: Global,
     text: &str,
     exchange: &Exchange<'_>,
@@ -219,7 +223,11 @@ fn is_whole_text(alloc: Global, cut: &Cut<'_>, value: &Value) -> Result<bool, Al
 }
 
 /// Returns the text with a member or an element added, if the plan is right.
-fn added(
+///
+/// # Errors
+///
+/// [`AllocError`] if an allocation fails.
+pub fn added(
     alloc: Global,
     text: &str,
     pointer: Pointer<'_>,

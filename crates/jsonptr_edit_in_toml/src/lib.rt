@@ -8,7 +8,8 @@
 //!
 //! - [`assign_in_toml`] and [`delete_in_toml`] edit at a pointer, as `assign` and `delete` do.
 //!   A document that cannot be edited in place is printed anew.
-//! - [`assign_in_toml_in_place`] and [`delete_in_toml_in_place`] do the same, in place or not at all.
+//! - [`assign_raw_in_toml`] assigns the text of a value, as it is written.
+//! - Those that end in `_in_place` do the same, in place or not at all.
 //!
 //! Each call makes two promises. *Meaning*: the new text reads as the document that the call on
 //! documents makes of the document that the old text reads as. *Bytes*, in place: one piece of the text
@@ -22,6 +23,7 @@
 //!   before that comma, on its line, and, if no key follows, directly above. Which comments go with a
 //!   table that has headers is tested.
 //! - What is put in is one member or element, with at most one comma.
+//! - A raw value has its own text, byte for byte, or headers and dotted keys make it.
 //!
 //! In the examples `rt` is the runtime that `main` and each test receive, and `alloc` is
 //! `rt.alloc()`, the allocator.
@@ -30,9 +32,12 @@
 mod add;
 mod alone;
 mod assign;
+mod assign_raw;
 mod check;
 mod cut_out;
 mod delete;
+mod given;
+mod given_plan;
 mod in_place;
 mod inline;
 mod inline_child;
@@ -45,6 +50,7 @@ mod outline;
 mod pair;
 mod piece;
 mod plan;
+mod raw_value;
 mod remove;
 mod replace;
 mod run;
@@ -53,6 +59,8 @@ mod skip;
 mod span;
 
 pub use assign::assign_in_toml;
+pub use assign_raw::{assign_raw_in_toml, assign_raw_in_toml_in_place};
 pub use delete::delete_in_toml;
 pub use in_place::{assign_in_toml_in_place, delete_in_toml_in_place};
 pub use jsonptr_edit_in_text::{Edited, InPlaceError};
+pub use raw_value::{RawTomlError, RawTomlValue};
