@@ -81,6 +81,7 @@ OTHERS = {
         ("jsonptr_edit_in_toml/src/assign.rt", ["assign_in_toml"]),
         ("jsonptr_edit_in_toml/src/assign_raw.rt", ["assign_raw_in_toml", "assign_raw_in_toml_in_place"]),
         ("jsonptr_edit_in_toml/src/raw_value.rt", ["parse"]),
+        ("jsonptr_edit_in_toml/src/rename.rt", ["rename_in_toml", "rename_in_toml_in_place"]),
         ("jsonptr_edit_in_toml/src/delete.rt", ["delete_in_toml"]),
         ("jsonptr_edit_in_toml/src/in_place.rt", ["assign_in_toml_in_place", "delete_in_toml_in_place"]),
     ],

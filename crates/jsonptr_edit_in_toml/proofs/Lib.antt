@@ -6,3 +6,5 @@ pub mod PieceLemmas
 pub mod PairLemmas
 pub mod MadeLemmas
 pub mod GivingLemmas
+pub mod NameLemmas
+pub mod RenamingLemmas

@@ -3,4 +3,6 @@ pub mod Bytes
 pub mod EditInToml
 pub mod Failing
 pub mod Giving
+pub mod PrivateRenaming
 pub mod RawValue
+pub mod Renaming

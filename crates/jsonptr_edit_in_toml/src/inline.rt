@@ -45,7 +45,11 @@ pub struct FoundChild {
 }
 
 /// Returns the children of the array or inline table at the span.
-fn children_of(alloc: Global, text: &str, span: Span) -> Result<Vec<InlineChild>, AllocError> {
+///
+/// # Errors
+///
+/// [`AllocError`] if an allocation fails.
+pub fn children_of(alloc: Global, text: &str, span: Span) -> Result<Vec<InlineChild>, AllocError> {
     let is_table = byte_at(text, span.from) == b'{';
     let mut children = Vec::new(alloc);
     let mut at = span.from.saturating_add(1);

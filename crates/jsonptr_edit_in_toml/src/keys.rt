@@ -125,7 +125,16 @@ pub fn follow(
 }
 
 /// Returns how far one key leads, as it is written, after so many tokens.
-fn step(alloc: Global, written: &str, route: &Route, count: usize) -> Result<Reach, AllocError> {
+///
+/// # Errors
+///
+/// [`AllocError`] if an allocation fails.
+pub fn step(
+    alloc: Global,
+    written: &str,
+    route: &Route,
+    count: usize,
+) -> Result<Reach, AllocError> {
     let reach = enter_element(route, count);
     if reach.ending != KeyEnd::Whole {
         return Ok(reach);

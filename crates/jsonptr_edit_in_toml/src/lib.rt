@@ -9,11 +9,12 @@
 //! - [`assign_in_toml`] and [`delete_in_toml`] edit at a pointer, as `assign` and `delete` do.
 //!   A document that cannot be edited in place is printed anew.
 //! - [`assign_raw_in_toml`] assigns the text of a value, as it is written.
+//! - [`rename_in_toml`] gives a member of a table another key.
 //! - Those that end in `_in_place` do the same, in place or not at all.
 //!
 //! Each call makes two promises. *Meaning*: the new text reads as the document that the call on
 //! documents makes of the document that the old text reads as. *Bytes*, in place: one piece of the text
-//! changes.
+//! changes, or of a rename each text of the key.
 //!
 //! - A value that has a text, as after an equals sign, is replaced by a text: all else stays, also the
 //!   comments beside it.
@@ -24,6 +25,7 @@
 //!   table that has headers is tested.
 //! - What is put in is one member or element, with at most one comma.
 //! - A raw value has its own text, byte for byte, or headers and dotted keys make it.
+//! - A key that is renamed becomes the new one, wherever it names the member, and nothing else changes.
 //!
 //! In the examples `rt` is the runtime that `main` and each test receive, and `alloc` is
 //! `rt.alloc()`, the allocator.
@@ -45,6 +47,7 @@ mod items;
 mod keys;
 pub mod laws;
 mod lines;
+mod mention;
 mod open;
 mod outline;
 mod pair;
@@ -52,6 +55,8 @@ mod piece;
 mod plan;
 mod raw_value;
 mod remove;
+mod rename;
+mod rename_document;
 mod replace;
 mod run;
 mod same;
@@ -62,5 +67,6 @@ pub use assign::assign_in_toml;
 pub use assign_raw::{assign_raw_in_toml, assign_raw_in_toml_in_place};
 pub use delete::delete_in_toml;
 pub use in_place::{assign_in_toml_in_place, delete_in_toml_in_place};
-pub use jsonptr_edit_in_text::{Edited, InPlaceError};
+pub use jsonptr_edit_in_text::{Edited, InPlaceError, RenameError};
 pub use raw_value::{RawTomlError, RawTomlValue};
+pub use rename::{rename_in_toml, rename_in_toml_in_place};
