@@ -6,7 +6,7 @@ import sys
 import tempfile
 
 TOP = os.path.dirname(os.path.dirname(os.path.abspath(__file__)))
-EXTRAS = ["value", "numbers", "tabled", "fragment", "session", "patch", "patch_document", "diff", "merge", "in_text", "text_value", "edit_in_text", "text_edit", "relayout", "io", "paths", "jptr_tasks", "in_toml", "edit_in_toml", "comments", "edit_with_comments", "laws", "c_calls"]
+EXTRAS = ["value", "numbers", "tabled", "fragment", "session", "patch", "patch_document", "diff", "merge", "in_text", "text_value", "edit_in_text", "text_edit", "relayout", "io", "paths", "jptr_tasks", "in_toml", "edit_in_toml", "comments", "edit_with_comments", "comments_edit", "laws", "c_calls"]
 
 
 def vendor(*arguments, status=0):

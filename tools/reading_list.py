@@ -57,6 +57,7 @@ OTHERS = {
         ("jsonptr_edit_in_text/src/locate.rt", ["locate_in_text"]),
     ],
     "one edit of a text": [("jsonptr_text_edit/src/text.rt", ["edit_text"])],
+    "one edit of a text with comments": [("jsonptr_comments_edit/src/commented.rt", ["edit_commented"])],
     "documents as lines": [
         ("jsonptr_paths/src/listing.rt", ["list"]),
         ("jsonptr_paths/src/text_listing.rt", ["list_in_text"]),

@@ -21,6 +21,7 @@
 //! - [`given_texts`]: a patch that is applied with the texts of its values.
 //! - [`streams`]: a document from a reader to a writer.
 //! - [`commented`]: a setting of a text with comments.
+//! - [`migrations`]: a setting of a text with comments that gets its new name.
 //! - [`toml_files`]: a TOML file of settings.
 //! - [`edits_in_toml`]: two edits in a TOML text, in place.
 //! - [`handles`]: a document in a handle, as a program in C uses it.
@@ -53,6 +54,7 @@ pub mod in_text;
 pub mod json_lines;
 pub mod layers;
 pub mod merge;
+pub mod migrations;
 pub mod nodes;
 pub mod overlay;
 pub mod own_text;
