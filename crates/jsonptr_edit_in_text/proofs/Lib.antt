@@ -3,7 +3,6 @@ mod DeletionLemmas
 mod RewritingLemmas
 pub mod BytesLemmas
 pub mod EditLemmas
-pub mod InPlaceLemmas
 pub mod OperatingLemmas
 pub mod RawLemmas
 pub mod ReachingLemmas

@@ -1,5 +1,5 @@
 -- The operations of a patch with the texts of their values.
-use Rattle.std.proofs.Common.{◌≡◌, List, [], ◌∷◌, ◌++◌, Option, Some, None, Result, Ok, Err, IfOk, IfSome, string_bytes, refl, sym, subst}
+use Rattle.std.proofs.Common.{◌≡◌, List, [], ◌∷◌, ◌++◌, Option, Some, None, Result, IfOk, IfSome, string_bytes, refl, sym, subst}
 use Rattle.std.specs.declared.alloc.AllocError.{AllocError}
 use Rattle.serde_json.specs.Data.{Data}
 use Rattle.serde_json.specs.View.{view}
@@ -7,17 +7,13 @@ use Rattle.serde_json.specs.declared.value.Value.{Value}
 use Rattle.jsonptr.specs.Text.{Text}
 use Rattle.jsonptr_patch.specs.declared.operation.Operation.{Operation}
 use Rattle.jsonptr_patch.specs.declared.operation.Operation.TheVariants.{Add, Remove, Replace, Move, Copy, Test}
-use Rattle.jsonptr_patch.specs.declared.failed_operation.FailedOperation.{FailedOperation}
 use Rattle.jsonptr_edit_in_text.specs.declared.plan.Made.{Made}
-use Rattle.jsonptr_edit_in_text.specs.Bytes.{KeepsBytes, ReplacesBytes}
+use Rattle.jsonptr_edit_in_text.specs.Bytes.{ReplacesBytes}
 use Rattle.jsonptr_text_value.specs.Raw.{value_of_raw}
 use Rattle.jsonptr_text_value.specs.Fitting.{IsRawTextOf}
 use Rattle.jsonptr_edit_in_text.specs.PatchInText.{AddsAtBytes, OperationBytes, PatchBytes}
 use Rattle.jsonptr_text_value.specs.Operations.{operations_in}
 use Rattle.jsonptr_edit_in_text.specs.RawPatching.{AddsGiven, ReplacesGiven, GivenBytes, RawPatchBytes}
-use Rattle.jsonptr_edit_in_text.specs.declared.edited.Edited.{Edited}
-use Rattle.jsonptr_edit_in_text.specs.declared.edited.Edited.TheVariants.{InPlace, Rewritten}
-use Rattle.jsonptr_edit_in_text.specs.declared.edited.EditError.{EditError}
 use Rattle.jsonptr_text_value.specs.declared.raw_operation.RawOperation.{RawOperation}
 use Rattle.jsonptr_text_value.specs.declared.raw_value.RawValue.{RawValue}
 use Rattle.jsonptr_edit_in_text.proofs.EditLemmas.{if_new}
@@ -40,11 +36,6 @@ bytes_of old (Test path value) text new h = h
 pub patch_bytes : (old new : Text) (rs : List RawOperation) → RawPatchBytes old rs new → PatchBytes old (operations_in rs) new
 patch_bytes old new [] h = h
 patch_bytes old new (r ∷ rs) h = (h.0, bytes_of old r.operation r.raw h.0 h.1, patch_bytes h.0 new rs h.2)
-
-pub kept_bytes : (r : Result Edited (EditError FailedOperation)) (old : Text) (rs : List RawOperation) (os : List Operation) → operations_in rs ≡ os → IfOk r (KeepsBytes (RawPatchBytes old rs)) → IfOk r (KeepsBytes (PatchBytes old os))
-kept_bytes (Err e) old rs os same h = h
-kept_bytes (Ok (InPlace s)) old rs os same h = subst (λ (l : List Operation). PatchBytes old l (string_bytes s)) same (patch_bytes old (string_bytes s) rs h)
-kept_bytes (Ok (Rewritten s)) old rs os same h = h
 
 -- ---- one operation
 

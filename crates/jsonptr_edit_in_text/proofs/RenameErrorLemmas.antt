@@ -1,4 +1,4 @@
--- Why a member does not get another key, and the document that is printed anew.
+-- Why a member is not renamed, and the document that is printed anew.
 use Rattle.std.proofs.Common.{◌≡◌, ℕ, ◌+◌, ◌-◌, ◌≤◌, ◌⊎◌, inl, inr, List, [], ◌∷◌, ◌++◌, length, Bool, true, false, IsTrue, ◌↔◌, Option, Some, None, IsSome, Result, Ok, Err, IfOk, IfErr, String, string_bytes, true≢false, refl, sym, ap, ◌∙◌, subst, arith, length-append}
 use Rattle.std.specs.declared.alloc.Global.{Global}
 use Rattle.serde_json.specs.Data.{Data, null, depth}
@@ -150,7 +150,7 @@ can_move c n tokens target k f t h = at h.done h.fails h.rest h.left h.split h.a
 
 -- ---- what is printed
 
--- a member that gets another key makes no document deeper
+-- renaming a member makes no document deeper
 renamed_within : (k : ℕ) (n m : NodeMap) (tokens : List Text) (o : IsMember n tokens) (y : Text) → NestsWithin k n → NestsWithin k (nodes null) → Moves n tokens (o.front ++ y ∷ []) m → NestsWithin k m
 renamed_within k n m tokens o y h blank v = at v.added
   where

@@ -1,4 +1,4 @@
--- A member that gets another key, in the words of moves.
+-- A member that is renamed, in the words of moves.
 use Rattle.std.proofs.Common.{◌≡◌, ◌+◌, ◌⊎◌, inl, inr, List, [], ◌∷◌, ◌++◌, length, Option, Some, None, IsSome, option_map, option_and_then, false, refl, sym, ap, ◌∙◌, subst, arith, length-append}
 use mathlib.Core.Path.{fun_ext}
 use Rattle.serde_json.specs.Data as json

@@ -1,10 +1,10 @@
 pub mod Bytes
 pub mod Giving
 pub mod EditInText
-pub mod InPlace
 pub mod Indenting
 pub mod Locating
 pub mod Placing
+pub mod OneLine
 pub mod PatchInText
 pub mod PrivateGiving
 pub mod PrivateOperating

@@ -8,8 +8,8 @@ use Rattle.jsonptr_in_text.specs.declared.resolve.InTextError.{InTextError}
 use Rattle.jsonptr_in_text.specs.declared.resolve.InTextError.TheVariants as in_text
 use Rattle.jsonptr_json_edits.specs.Child.{IsValueText}
 use Rattle.jsonptr_edit_in_text.specs.Placing.{IsAt}
-use Rattle.jsonptr_edit_in_text.specs.declared.locate.LocateError.{LocateError}
-use Rattle.jsonptr_edit_in_text.specs.declared.locate.LocateError.TheVariants.{NotJson, Resolve, NotLocated, Memory}
+use Rattle.jsonptr_edit_in_text.specs.declared.find.LocateError.{LocateError}
+use Rattle.jsonptr_edit_in_text.specs.declared.find.LocateError.TheVariants.{NotJson, Resolve, NotLocated, Memory}
 
 -- `IsLocated text tokens before piece after`: `text` is `before`, `piece` and `after`, and `piece` is the text of the value that
 -- `tokens` identify in the document of `text`

@@ -1,4 +1,4 @@
--- A member of an object that gets another key, in the text of the document.
+-- A member of an object that is renamed, in the text of the document.
 use Rattle.std.specs.Prelude.{◌≡◌, ◌⊎◌, List, [], ◌∷◌, ◌++◌, Some, None, IsSome, ⊤}
 use Rattle.serde_json.specs.Data.{Data, string}
 use Rattle.serde_json.specs.Read.{read}

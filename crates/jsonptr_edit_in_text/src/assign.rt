@@ -1,6 +1,5 @@
 //! Assigning in a text.
 ghost use Rattle.std.specs.Prelude.{◌≡◌, ◌∷◌, ◌++◌, List, ℕ, IfOk, IfErr, IfSome, string_bytes};
-ghost use Rattle.serde_json.specs.View.{view};
 ghost use Rattle.jsonptr.specs.Pointer.{tokens};
 ghost use Rattle.jsonptr.specs.Json.{nodes};
 ghost use Rattle.jsonptr_edit_in_text.specs.Bytes.{KeepsBytes, AssignsBytes};
@@ -20,21 +19,26 @@ use jsonptr_in_text::selectors::selectors_of;
 use jsonptr_json_edits::buffers::Buffers;
 use jsonptr_json_edits::locate::place_of;
 use jsonptr_text_value::{RawValue, expanded_text};
-use serde_json::Value;
-use std::alloc::{AllocError, Global};
+use std::alloc::AllocError;
 
 /// Assigns the value at the pointer in the document that the text contains, as
-/// [`Assign::assign`](jsonptr::assign::Assign) does.
+/// [`Assign::assign`](jsonptr::assign::Assign) does, with path expansion.
 ///
 /// In place, one piece of the text changes. A value that is there is replaced, byte for byte. A new
 /// member or element is put after the last one, with the white space that its siblings have. Of
 /// members with the same key the last one counts, and the others stay.
 ///
+/// In place, the value that the pointer leads to afterwards has the tokens of its own text, one for one: its
+/// members in their order, and its numbers as they are written. Where the value is expanded by tokens that
+/// name nothing yet, the arrays and objects that are made are around it.
+///
 /// The new text is read side by side with the old one before it is returned. If that fails, the
 /// document is read, changed and printed, and the result is [`Edited::Rewritten`].
 ///
 /// Reads the old text and the new one two to four times each, and allocates for both texts, for
-/// their unescaped strings, and for the value.
+/// their unescaped strings, and for the value. `buffers` keep their memory from text to text: the unescaped
+/// strings of three texts, and three indices of 16 KiB, which [`Buffers::new`] clears. No call minds what an
+/// earlier one left, also after an error.
 ///
 /// # Errors
 ///
@@ -46,94 +50,14 @@ use std::alloc::{AllocError, Global};
 /// # Examples
 ///
 /// ```rust
-/// let text = "{\"b\": 1, \"a\": [2]}";
-/// let edited = assign_in_text(alloc, text, Pointer::parse("/a/-")?, Value::from(3))?;
-/// assert_eq!(rt; edited.as_str(), "{\"b\": 1, \"a\": [2, 3]}");
-/// ```
-pub fn assign_in_text(
-    alloc: Global,
-    text: &str,
-    pointer: Pointer<'_>,
-    value: Value,
-) -> Result<Edited, EditError<assign::Error>>
-    ensures assigned { IfOk result (λ e. AssignsInText text.now (tokens pointer.entry)
-        (nodes (view value)) (edited_text e)) }
-    ensures bytes { IfOk result
-        (KeepsBytes (AssignsBytes text.now (tokens pointer.entry) (view value))) }
-    ensures refused { IfErr result (IsAssignError text.now (tokens pointer.entry)
-        (view value)) }
-{
-    let mut buffers = Buffers::new(alloc);
-    assign_in_text_with(alloc, &mut buffers, text, pointer, value)
-}
-
-/// Assigns the value at the pointer in the document that the text contains, as [`assign_in_text`]
-/// does, in buffers of the caller.
-///
-/// A caller that edits many texts keeps one [`Buffers`] and passes it to each call. It has room for the
-/// unescaped strings of three texts, as much as the longest texts so far, and three indices of 16 KiB,
-/// which [`Buffers::new`] clears. No call minds what an earlier one left, also after an error.
-///
-/// # Errors
-///
-/// Those of [`assign_in_text`].
-///
-/// # Examples
-///
-/// ```rust
-/// let size = Pointer::parse("/size")?;
 /// let mut buffers = Buffers::new(alloc);
-/// let first = assign_in_text_with(alloc, &mut buffers, "{\"size\": 3}", size, Value::from(7))?;
-/// assert_eq!(rt; first.as_str(), "{\"size\": 7}");
-/// let second = assign_in_text_with(alloc, &mut buffers, "{}", size, Value::from(8))?;
-/// assert_eq!(rt; second.as_str(), "{\"size\":8}");
-/// ```
-pub fn assign_in_text_with(
-    alloc: Global,
-    buffers: &mut Buffers,
-    text: &str,
-    pointer: Pointer<'_>,
-    value: Value,
-) -> Result<Edited, EditError<assign::Error>>
-    ensures assigned { IfOk result (λ e. AssignsInText text.now (tokens pointer.entry)
-        (nodes (view value)) (edited_text e)) }
-    ensures bytes { IfOk result
-        (KeepsBytes (AssignsBytes text.now (tokens pointer.entry) (view value))) }
-    ensures refused { IfErr result (IsAssignError text.now (tokens pointer.entry)
-        (view value)) }
-{
-    let Some(raw) = RawValue::from_value(alloc, &value)? else {
-        let new = assign_and_print(alloc, text, pointer, value)?;
-        return Ok(Edited::Rewritten(new));
-    };
-    assign_raw_in_text_with(alloc, buffers, text, pointer, &raw)
-}
-
-/// Assigns the value at the pointer in the document that the text contains, as
-/// [`assign_in_text_with`] does, with the value's own text.
-///
-/// In place, the value that the pointer leads to afterwards has the tokens of this text, one for one: its
-/// members in their order, and its numbers as they are written. Where the value is expanded by tokens that
-/// name nothing yet, the arrays and objects that are made are around it. Only a document that is
-/// [`Rewritten`](Edited::Rewritten) has the value printed.
-///
-/// # Errors
-///
-/// Those of [`assign_in_text`].
-///
-/// # Examples
-///
-/// ```rust
 /// let price = RawValue::parse(alloc, "{ \"price\": 1.10, \"currency\": \"EUR\" }")?;
-/// let mut buffers = Buffers::new(alloc);
 /// let path = Pointer::parse("/goods/-")?;
-/// let text = "{\"goods\": []}";
-/// let edited = assign_raw_in_text_with(alloc, &mut buffers, text, path, &price)?;
+/// let edited = assign_in_text(&mut buffers, "{\"goods\": []}", path, &price)?;
 /// let new = "{\"goods\": [{\"price\": 1.10, \"currency\": \"EUR\"}]}";
 /// assert_eq!(rt; edited.as_str(), new);
 /// ```
-pub fn assign_raw_in_text_with(
-    alloc: Global,
+pub fn assign_in_text(
     buffers: &mut Buffers,
     text: &str,
     pointer: Pointer<'_>,
@@ -143,25 +67,26 @@ pub fn assign_raw_in_text_with(
         (nodes (value_of_raw raw.now)) (edited_text e)) }
     ensures bytes { IfOk result
         (KeepsBytes (AssignsBytes text.now (tokens pointer.entry) (value_of_raw raw.now))) }
-    ensures carries { IfOk result
+    ensures given { IfOk result
         (KeepsBytes (AssignsGiven text.now (tokens pointer.entry) raw.now)) }
     ensures refused { IfErr result (IsAssignError text.now (tokens pointer.entry)
         (value_of_raw raw.now)) }
 {
-    if let Some(new) = try_assign(buffers, text, pointer, raw)? {
+    if let Some(new) = assign_at(buffers, text, pointer, raw)? {
         return Ok(Edited::InPlace(new.text));
     }
+    let alloc = buffers.alloc;
     let new = assign_and_print(alloc, text, pointer, raw.to_value(alloc)?)?;
     Ok(Edited::Rewritten(new))
 }
 
 /// Assigns the value at the pointer in the text, with one piece of the text replaced. Returns `None`
-/// if that is not possible, and for every error of the pointer.
+/// if that is not possible, and for each error of the pointer.
 ///
 /// # Errors
 ///
 /// [`AllocError`] if an allocation fails.
-pub fn try_assign(
+pub fn assign_at(
     buffers: &mut Buffers,
     text: &str,
     pointer: Pointer<'_>,

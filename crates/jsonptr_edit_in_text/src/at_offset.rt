@@ -2,12 +2,12 @@
 ghost use Rattle.std.specs.Prelude.{◌≡◌, [], false, IfOk, IfErr, IfSome, IsTrue, MatchOption};
 ghost use Rattle.jsonptr_edit_in_text.specs.Locating.{IsLocatedAt, IsOutside, Contains, IsLocateError};
 
-use crate::locate::{LocateError, Located, locate_in_text_with};
-use json::{Reader, Scratch};
+use crate::find::{LocateError, Located, locate};
+use json::Reader;
 use jsonptr::{Pointer, PointerBuf};
 use jsonptr_in_text::path::Path;
 use jsonptr_json_edits::buffers::Buffers;
-use std::alloc::{AllocError, Global};
+use std::alloc::AllocError;
 
 /// A value of a text, and its pointer. It owns the pointer, and borrows the text.
 #[derive(Debug, Drop)]
@@ -21,7 +21,7 @@ pub struct PointerAt<'t> {
 /// Returns the pointer of a value whose text contains the byte at the offset, and where that text is.
 /// Returns `None` if the byte is before or after the document, or if the text ends before it.
 ///
-/// The bytes of a value are those from its first to its last one, as in [`locate_in_text`]: the byte of a
+/// The bytes of a value are those from its first to its last one, as in [`locate`]: the byte of a
 /// key, or of white space between the members of an object, is one of that object. Of all such values
 /// it is the innermost one, except in a member whose key comes again: no pointer leads there, and the
 /// value is one around that member, perhaps the whole document.
@@ -31,21 +31,22 @@ pub struct PointerAt<'t> {
 ///
 /// # Errors
 ///
-/// Those of [`locate_in_text`] at the root.
+/// Those of [`locate`] at the root.
 ///
 /// # Examples
 ///
 /// ```rust
+/// let mut buffers = Buffers::new(alloc);
 /// let text = r#"{"name": "app", "sizes": [1.0, 5]}"#;
-/// let at = pointer_at(alloc, text, 31)?.ok_or("a value")?;
+/// let at = pointer_at(&mut buffers, text, 31)?.ok_or("a value")?;
 /// assert_eq!(rt; (at.pointer.as_ptr().as_str(), at.located.value), ("/sizes/1", "5"));
-/// let key = pointer_at(alloc, text, 2)?.ok_or("a value")?;
+/// let key = pointer_at(&mut buffers, text, 2)?.ok_or("a value")?;
 /// assert_eq!(rt; key.pointer.as_ptr().as_str(), "");
 /// ```
 ///
-/// [`locate_in_text`]: crate::locate_in_text
+/// [`locate`]: crate::locate
 pub fn pointer_at<'t>(
-    alloc: Global,
+    buffers: &mut Buffers,
     text: &'t str,
     offset: usize,
 ) -> Result<Option<PointerAt<'t>>, LocateError>
@@ -54,17 +55,16 @@ pub fn pointer_at<'t>(
         at.located.before.now at.located.value.now at.located.after.now)) }
     ensures refused { IfErr result (IsLocateError text.now []) }
 {
-    let mut buffers = Buffers::new(alloc);
-    let deepest = path_to(alloc, text, offset)?;
-    if let Some(found) = value_around(&mut buffers, text, offset, deepest.as_ptr())? {
+    let deepest = path_to(buffers, text, offset)?;
+    if let Some(found) = value_around(buffers, text, offset, deepest.as_ptr())? {
         return Ok(Some(found));
     }
     if let Some(parent) = deepest.as_ptr().parent() {
-        if let Some(found) = value_around(&mut buffers, text, offset, parent)? {
+        if let Some(found) = value_around(buffers, text, offset, parent)? {
             return Ok(Some(found));
         }
     }
-    root_at(&mut buffers, text, offset)
+    root_at(buffers, text, offset)
 }
 
 /// Returns the pointer of the value that the last token before the offset, or at it, belongs to. It is a
@@ -73,9 +73,9 @@ pub fn pointer_at<'t>(
 /// # Errors
 ///
 /// [`AllocError`] if an allocation fails.
-fn path_to(alloc: Global, text: &str, offset: usize) -> Result<PointerBuf, AllocError> {
-    let mut scratch = Scratch::new(alloc);
-    let mut reader = Reader::new(text, &mut scratch)?;
+fn path_to(buffers: &mut Buffers, text: &str, offset: usize) -> Result<PointerBuf, AllocError> {
+    let alloc = buffers.alloc;
+    let mut reader = Reader::new(text, &mut buffers.old)?;
     let mut path = Path::new(alloc);
     'tokens: while let Some(token) = reader.next() {
         path.enter(alloc, token)?;
@@ -102,7 +102,7 @@ fn value_around<'t>(
         at.located.before.now at.located.value.now at.located.after.now)) }
 {
     let alloc = buffers.alloc;
-    match locate_in_text_with(alloc, buffers, text, pointer) {
+    match locate(buffers, text, pointer) {
         Ok(located) => if contains(&located, offset) {
             let pointer = pointer.to_buf(alloc)?;
             Ok(Some(PointerAt { pointer, located }))
@@ -126,7 +126,7 @@ fn root_at<'t>(
     ensures refused { IfErr result (IsLocateError text.now []) }
 {
     let alloc = buffers.alloc;
-    let located = locate_in_text_with(alloc, buffers, text, Pointer::root())?;
+    let located = locate(buffers, text, Pointer::root())?;
     if contains(&located, offset) {
         let pointer = PointerBuf::new(alloc);
         Ok(Some(PointerAt { pointer, located }))

@@ -19,7 +19,7 @@ use jsonptr_json_edits::buffers::Buffers;
 use jsonptr_json_edits::locate::place_at;
 use jsonptr_value::ReadError;
 use serde_json::Value;
-use std::alloc::{AllocError, Global};
+use std::alloc::AllocError;
 
 /// Deletes the value that the pointer resolves to in the document that the text contains, as
 /// [`Delete::delete`](jsonptr::delete::Delete) does. Returns `None` if it resolves to nothing.
@@ -32,7 +32,7 @@ use std::alloc::{AllocError, Global};
 /// document is read, changed and printed, and the result is [`Edited::Rewritten`].
 ///
 /// Reads the old text four or five times and the new one once, and allocates for both texts and for
-/// their unescaped strings.
+/// their unescaped strings. `buffers` keep their memory from text to text.
 ///
 /// # Errors
 ///
@@ -42,44 +42,13 @@ use std::alloc::{AllocError, Global};
 /// # Examples
 ///
 /// ```rust
-/// let text = "{\"b\": 1, \"a\": [2, 3]}";
-/// let edited = delete_in_text(alloc, text, Pointer::parse("/b")?)?;
-/// assert_eq!(rt; edited.ok_or("a value")?.as_str(), "{\"a\": [2, 3]}");
-/// ```
-pub fn delete_in_text(
-    alloc: Global,
-    text: &str,
-    pointer: Pointer<'_>,
-) -> Result<Option<Edited>, ReadError>
-    ensures deleted { IfOk result (λ o. MatchOption o (LacksInText text.now (tokens pointer.entry))
-        (λ e. DeletesInText text.now (tokens pointer.entry) (edited_text e))) }
-    ensures bytes { IfOk result (λ o. IfSome o
-        (KeepsBytes (DeletesBytes text.now (tokens pointer.entry)))) }
-    ensures refused { IfErr result (IsReadError text.now) }
-{
-    let mut buffers = Buffers::new(alloc);
-    delete_in_text_with(alloc, &mut buffers, text, pointer)
-}
-
-/// Deletes the value that the pointer resolves to in the document that the text contains, as
-/// [`delete_in_text`] does, in buffers of the caller, as
-/// [`assign_in_text_with`](crate::assign_in_text_with) uses them.
-///
-/// # Errors
-///
-/// Those of [`delete_in_text`].
-///
-/// # Examples
-///
-/// ```rust
 /// let mut buffers = Buffers::new(alloc);
 /// let first = Pointer::parse("/0")?;
-/// let edited = delete_in_text_with(alloc, &mut buffers, "[1.0, 2]", first)?;
+/// let edited = delete_in_text(&mut buffers, "[1.0, 2]", first)?;
 /// assert_eq!(rt; edited.ok_or("a value")?.as_str(), "[2]");
-/// assert!(rt; delete_in_text_with(alloc, &mut buffers, "[]", first)?.is_none());
+/// assert!(rt; delete_in_text(&mut buffers, "[]", first)?.is_none());
 /// ```
-pub fn delete_in_text_with(
-    alloc: Global,
+pub fn delete_in_text(
     buffers: &mut Buffers,
     text: &str,
     pointer: Pointer<'_>,
@@ -93,7 +62,7 @@ pub fn delete_in_text_with(
     if let Some(new) = cut_out(buffers, text, pointer)? {
         return Ok(Some(Edited::InPlace(new.text)));
     }
-    match delete_and_print(alloc, text, pointer)? {
+    match delete_and_print(buffers.alloc, text, pointer)? {
         Some(new) => Ok(Some(Edited::Rewritten(new))),
         None => Ok(None),
     }

@@ -46,8 +46,10 @@ impl Edited {
 /// # Examples
 ///
 /// ```rust
-/// let value = Value::from(3);
-/// let edited = assign_in_text(alloc, r#"{"sizes": []}"#, Pointer::parse("/sizes/1")?, value);
+/// let mut buffers = Buffers::new(alloc);
+/// let three = RawValue::parse(alloc, "3")?;
+/// let pointer = Pointer::parse("/sizes/1")?;
+/// let edited = assign_in_text(&mut buffers, r#"{"sizes": []}"#, pointer, &three);
 /// let message = format!(in alloc; "{}", edited.err().ok_or("an error")?)?;
 /// let want = "assign failed: json pointer token at offset 6 is out of bounds";
 /// assert_eq!(rt; message.as_str(), want);

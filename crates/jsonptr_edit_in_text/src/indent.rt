@@ -52,19 +52,14 @@ impl From<ReadError> for IndentError {
 ///
 /// ```rust
 /// let mut buffers = Buffers::new(alloc);
-/// let lines = indent_text(alloc, &mut buffers, "{\"b\": 1.10, \"a\": [ 2 ]}", "\t")?;
+/// let lines = indent_text(&mut buffers, "{\"b\": 1.10, \"a\": [ 2 ]}", "\t")?;
 /// assert_eq!(rt; lines.as_str(), "{\n\t\"b\": 1.10,\n\t\"a\": [\n\t\t2\n\t]\n}");
 /// ```
-pub fn indent_text(
-    alloc: Global,
-    buffers: &mut Buffers,
-    text: &str,
-    indent: &str,
-) -> Result<String, IndentError>
+pub fn indent_text(buffers: &mut Buffers, text: &str, indent: &str) -> Result<String, IndentError>
     ensures indented { IfOk result (λ s. IsIndented text.now (string_bytes s)) }
     ensures refused { IfErr result (IsIndentError text.now indent.now) }
 {
-    let lines = format_text(alloc, &mut buffers.old, text, Format::Pretty)?;
+    let lines = format_text(buffers.alloc, &mut buffers.old, text, Format::Pretty)?;
     match reindented(buffers, lines.as_str(), indent) {
         Ok(Some(new)) => Ok(new),
         // White space changes no token, so this arm is for the proof alone.

@@ -1,7 +1,7 @@
 //! Whether a text stays one line.
 ghost use Rattle.std.specs.Prelude.{◌≡◌, false, IsTrue};
 ghost use Rattle.jsonptr_io.specs.Lines.{IsOneLine};
-ghost use Rattle.jsonptr_edit_in_text.specs.InPlace.{StaysOneLine};
+ghost use Rattle.jsonptr_edit_in_text.specs.OneLine.{StaysOneLine};
 
 use memchr::memchr;
 

@@ -23,7 +23,7 @@ pub enum Plan {
     Added(Added),
     /// A child was cut out of an array or an object.
     Removed(Removed),
-    /// A member got another key.
+    /// A member was renamed.
     Renamed(Renamed),
 }
 

@@ -1,4 +1,4 @@
-//! Giving a member of an object another key in a text.
+//! Renaming a member of an object in a text.
 ghost use Rattle.std.specs.Prelude.{◌≡◌, [], ◌∷◌, ◌++◌, IfOk, IfErr, IfSome, IsTrue, string_bytes};
 ghost use Rattle.serde_json.specs.Data.{string};
 ghost use Rattle.jsonptr.specs.Pointer.{tokens};
@@ -31,11 +31,11 @@ use jsonptr_json_edits::member::{MemberText, member_in};
 use jsonptr_json_search::decide::is_text;
 use jsonptr_walk::put::key_of;
 use serde_json::Value;
-use std::alloc::{AllocError, Global};
+use std::alloc::AllocError;
 use std::borrow::CowStr;
 use thiserror::Error;
 
-/// Why a member does not get another key.
+/// Why a member is not renamed.
 #[derive(Clone, Copy, Debug, Drop, PartialEq, Eq, Error)]
 pub enum RenameError {
     /// The pointer resolves to nothing.
@@ -49,9 +49,9 @@ pub enum RenameError {
     KeyTaken,
 }
 
-/// Gives the member of an object that the pointer resolves to another key, in the document that the text
-/// contains. It becomes what the operation `move` makes of it, from the pointer to the same object with the
-/// new key (RFC 6902, section 4.4).
+/// Renames the member of an object that the pointer resolves to, in the document that the text contains. The
+/// document becomes what the operation `move` makes of it, from the pointer to the same object with the new
+/// key (RFC 6902, section 4.4).
 ///
 /// Only the name of the member changes: the member keeps its place among the others, its value and the white
 /// space around it. If it has the key already, the text is unchanged. The key is not escaped as in a pointer.
@@ -77,14 +77,13 @@ pub enum RenameError {
 /// ```rust
 /// let mut buffers = Buffers::new(alloc);
 /// let text = "{\n  \"size\" : 1.0,\n  \"name\": \"app\"\n}\n";
-/// let edited = rename_in_text(alloc, &mut buffers, text, Pointer::parse("/size")?, "width/cm")?;
+/// let edited = rename_in_text(&mut buffers, text, Pointer::parse("/size")?, "width/cm")?;
 /// let new = "{\n  \"width/cm\" : 1.0,\n  \"name\": \"app\"\n}\n";
 /// assert_eq!(rt; edited.as_str(), new);
-/// let taken = rename_in_text(alloc, &mut buffers, text, Pointer::parse("/size")?, "name");
+/// let taken = rename_in_text(&mut buffers, text, Pointer::parse("/size")?, "name");
 /// assert!(rt; matches!(taken, Err(EditError::Refused(RenameError::KeyTaken))));
 /// ```
 pub fn rename_in_text(
-    alloc: Global,
     buffers: &mut Buffers,
     text: &str,
     pointer: Pointer<'_>,
@@ -98,11 +97,11 @@ pub fn rename_in_text(
     if let Some(new) = rename_at(buffers, text, pointer, key)? {
         return Ok(Edited::InPlace(new.text));
     }
-    let new = rename_and_print(alloc, text, pointer, key)?;
+    let new = rename_and_print(buffers.alloc, text, pointer, key)?;
     Ok(Edited::Rewritten(new))
 }
 
-/// Gives the member that the pointer resolves to another key where it is. Returns `None` if that is not
+/// Renames the member that the pointer resolves to where it is. Returns `None` if that is not
 /// possible, and for each error of [`rename_in_text`] but a failed allocation.
 ///
 /// # Errors

@@ -1,4 +1,4 @@
-//! Giving a member another key in a document that is read from a text and printed anew.
+//! Renaming a member in a document that is read from a text and printed anew.
 ghost use Rattle.std.specs.Prelude.{◌≡◌, ◌↔◌, [], ◌∷◌, IfOk, IfErr, IfSome, IsTrue, MatchOption, string_bytes};
 ghost use Rattle.serde_json.specs.View.{view};
 ghost use Rattle.jsonptr.specs.Content.{label_of};
@@ -22,7 +22,7 @@ use serde_json::Value;
 use std::alloc::{AllocError, Global};
 use std::borrow::CowStr;
 
-/// Reads the text, gives the member another key, and prints the document.
+/// Reads the text, renames the member, and prints the document.
 ///
 /// # Errors
 ///

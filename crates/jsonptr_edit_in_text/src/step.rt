@@ -3,7 +3,7 @@ ghost use Rattle.std.specs.Prelude.{IfOk, IfSome, string_bytes};
 ghost use Rattle.jsonptr_edit_in_text.specs.Steps.{StepsText, StepBytes};
 
 use crate::add::add_at;
-use crate::assign::try_assign;
+use crate::assign::assign_at;
 use crate::delete::cut_out;
 use crate::plan::Made;
 use crate::rename::rename_at;
@@ -17,7 +17,7 @@ use std::alloc::AllocError;
 /// One edit of a text. It borrows what it names.
 #[derive(Clone, Copy, Debug)]
 pub enum Step<'a> {
-    /// Assigns the value at the pointer, as [`assign_raw_in_text_with`](crate::assign_raw_in_text_with) does.
+    /// Assigns the value at the pointer, as [`assign_in_text`](crate::assign_in_text) does.
     Assign(Pointer<'a>, &'a RawValue),
     /// Deletes the value at the pointer, as [`delete_in_text`](crate::delete_in_text) does.
     Delete(Pointer<'a>),
@@ -26,7 +26,7 @@ pub enum Step<'a> {
     /// Replaces the value at the pointer by that of the text, as the operation `replace` does (RFC 6902,
     /// section 4.3).
     Replace(Pointer<'a>, &'a ValueText),
-    /// Gives the member at the pointer another key, as [`rename_in_text`](crate::rename_in_text) does.
+    /// Renames the member at the pointer, as [`rename_in_text`](crate::rename_in_text) does.
     Rename(Pointer<'a>, &'a str),
 }
 
@@ -59,7 +59,7 @@ pub fn take_step(
         (λ made. StepBytes text.now step.entry (string_bytes made.text))) }
 {
     match step {
-        Step::Assign(pointer, raw) => try_assign(buffers, text, pointer, raw),
+        Step::Assign(pointer, raw) => assign_at(buffers, text, pointer, raw),
         Step::Delete(pointer) => cut_out(buffers, text, pointer),
         Step::Add(pointer, printed) => add_at(buffers, text, pointer, printed),
         Step::Replace(pointer, printed) => replace_at(buffers, text, pointer, printed),

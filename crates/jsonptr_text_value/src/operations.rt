@@ -43,8 +43,8 @@ use std::alloc::{AllocError, Global};
 /// let patch = read_patch(alloc, &Value::from_str(alloc, document)?)?;
 /// let mut buffers = Buffers::new(alloc);
 /// let patch = raw_operations(alloc, &mut buffers, document, patch)?.ok_or("a text")?;
-/// let edited = apply_raw_in_text_with(alloc, &mut buffers, "[]", patch)?;
-/// assert_eq!(rt; edited.as_str(), "[{\"b\":1.10,\"a\":1e5}]");
+/// let new = apply_in_text(&mut buffers, "[]", &patch)?.ok_or("an edit in place")?;
+/// assert_eq!(rt; new.as_str(), "[{\"b\":1.10,\"a\":1e5}]");
 /// ```
 pub fn raw_operations(
     alloc: Global,

@@ -9,7 +9,7 @@ use Rattle.jsonptr_edit_in_text.proofs.step.take_step.Goals as goal
 
 pub returns-in-Assign-clause-stepped : goal.returns-in-Assign-clause-stepped
 returns-in-Assign-clause-stepped c =
-    subst (λ (s : Step). IfOk c.try_assign.result (λ o. IfSome o (λ m. StepsText c.args.text.now s (string_bytes m.text)))) (sym c.in-Assign.is) c.try_assign.ensures.assigned
+    subst (λ (s : Step). IfOk c.assign_at.result (λ o. IfSome o (λ m. StepsText c.args.text.now s (string_bytes m.text)))) (sym c.in-Assign.is) c.assign_at.ensures.assigned
 
 pub returns-in-Delete-clause-stepped : goal.returns-in-Delete-clause-stepped
 returns-in-Delete-clause-stepped c =
@@ -33,7 +33,7 @@ returns-in-Replace-clause-stepped c =
 
 pub returns-in-Assign-clause-bytes : goal.returns-in-Assign-clause-bytes
 returns-in-Assign-clause-bytes c =
-    subst (λ (s : Step). IfOk c.try_assign.result (λ o. IfSome o (λ m. StepBytes c.args.text.now s (string_bytes m.text)))) (sym c.in-Assign.is) c.try_assign.ensures.bytes
+    subst (λ (s : Step). IfOk c.assign_at.result (λ o. IfSome o (λ m. StepBytes c.args.text.now s (string_bytes m.text)))) (sym c.in-Assign.is) c.assign_at.ensures.bytes
 
 pub returns-in-Delete-clause-bytes : goal.returns-in-Delete-clause-bytes
 returns-in-Delete-clause-bytes c =

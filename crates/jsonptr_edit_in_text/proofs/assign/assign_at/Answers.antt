@@ -1,7 +1,7 @@
 use Rattle.std.proofs.Common.{List, IfOk, IfSome, string_bytes, sym, subst}
 use Rattle.jsonptr.specs.Text.{Text}
 use Rattle.jsonptr_edit_in_text.specs.Giving.{AssignsGiven}
-use Rattle.jsonptr_edit_in_text.proofs.assign.try_assign.Goals as goal
+use Rattle.jsonptr_edit_in_text.proofs.assign.assign_at.Goals as goal
 
 pub returns-clause-bytes : goal.returns-clause-bytes
 returns-clause-bytes c =

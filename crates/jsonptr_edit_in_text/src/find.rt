@@ -2,7 +2,7 @@
 ghost use Rattle.std.specs.Prelude.{◌≡◌, IfOk, IfErr, IfSome};
 ghost use Rattle.jsonptr.specs.Pointer.{tokens};
 ghost use Rattle.jsonptr_edit_in_text.specs.Locating.{IsLocated, IsLocateError, locate_of_in_text};
-ghost use Rattle.jsonptr_edit_in_text.specs.declared.locate.LocateError.TheVariants.{Memory};
+ghost use Rattle.jsonptr_edit_in_text.specs.declared.find.LocateError.TheVariants.{Memory};
 
 use crate::lead::{Target, leads_after};
 use jsonptr::{Pointer, resolve};
@@ -12,7 +12,7 @@ use jsonptr_json_edits::buffers::Buffers;
 use jsonptr_json_edits::cut::{Cut, cut_at};
 use jsonptr_json_edits::locate::place_at;
 use jsonptr_json_edits::spacing::is_trimmed;
-use std::alloc::{AllocError, Global};
+use std::alloc::AllocError;
 use thiserror::Error;
 
 /// A text that is cut before and after one of its values.
@@ -69,7 +69,8 @@ impl From<AllocError> for LocateError {
 /// value, with its members in their order, its numbers and escapes as they are written, and the white
 /// space within it. Of a repeated key the last member counts.
 ///
-/// Reads the text twice, and what follows `before` once more. Builds no document.
+/// Reads the text twice, and what follows `before` once more. Builds no document. `buffers` keep their memory
+/// from text to text. No call minds what an earlier one left, also after an error.
 ///
 /// # Errors
 ///
@@ -81,42 +82,14 @@ impl From<AllocError> for LocateError {
 /// # Examples
 ///
 /// ```rust
-/// let text = r#"{"b": [1.0, 1e5], "a": {}}"#;
-/// let located = locate_in_text(alloc, text, Pointer::parse("/b")?)?;
-/// assert_eq!(rt; (located.before.len(), located.value), (6, "[1.0, 1e5]"));
-/// ```
-pub fn locate_in_text<'t>(
-    alloc: Global,
-    text: &'t str,
-    pointer: Pointer<'_>,
-) -> Result<Located<'t>, LocateError>
-    ensures located { IfOk result (λ l. IsLocated text.now (tokens pointer.entry)
-        l.before.now l.value.now l.after.now) }
-    ensures refused { IfErr result (IsLocateError text.now (tokens pointer.entry)) }
-{
-    let mut buffers = Buffers::new(alloc);
-    locate_in_text_with(alloc, &mut buffers, text, pointer)
-}
-
-/// Returns where the value that the pointer resolves to is in the JSON text, as [`locate_in_text`]
-/// does, in buffers of the caller.
-///
-/// No call minds what an earlier one left in the buffers, also after an error.
-///
-/// # Errors
-///
-/// Those of [`locate_in_text`].
-///
-/// # Examples
-///
-/// ```rust
 /// let mut buffers = Buffers::new(alloc);
-/// let one = locate_in_text_with(alloc, &mut buffers, "[ 1, 2 ]", Pointer::parse("/1")?)?;
-/// let all = locate_in_text_with(alloc, &mut buffers, " [1]\n", Pointer::root())?;
-/// assert_eq!(rt; (one.value, all.value), ("2", "[1]"));
+/// let text = r#"{"b": [1.0, 1e5], "a": {}}"#;
+/// let located = locate(&mut buffers, text, Pointer::parse("/b")?)?;
+/// assert_eq!(rt; (located.before.len(), located.value), (6, "[1.0, 1e5]"));
+/// let all = locate(&mut buffers, " [1]\n", Pointer::root())?;
+/// assert_eq!(rt; all.value, "[1]");
 /// ```
-pub fn locate_in_text_with<'t>(
-    alloc: Global,
+pub fn locate<'t>(
     buffers: &mut Buffers,
     text: &'t str,
     pointer: Pointer<'_>,
@@ -131,7 +104,7 @@ pub fn locate_in_text_with<'t>(
             value: cut.middle,
             after: cut.after,
         }),
-        Ok(None) => match resolve_in_text_with(alloc, &mut buffers.old, text, pointer) {
+        Ok(None) => match resolve_in_text_with(buffers.alloc, &mut buffers.old, text, pointer) {
             Ok(_value) => Err(LocateError::NotLocated),
             Err(error) => Err(LocateError::from(error)),
         },

@@ -7,7 +7,7 @@ use Rattle.jsonptr_edit_in_text.specs.RawPatching.{GivenBytes, RawPatchBytes}
 use Rattle.jsonptr_text_value.specs.declared.raw_operation.RawOperation.{RawOperation}
 use Rattle.jsonptr_edit_in_text.proofs.EditLemmas.{if_new}
 use Rattle.jsonptr_edit_in_text.proofs.OperatingLemmas.{patches_first}
-use Rattle.jsonptr_edit_in_text.proofs.apply.try_apply_raw_in_place.Goals as goal
+use Rattle.jsonptr_edit_in_text.proofs.apply.apply_in_text.Goals as goal
 
 pub returns-clause-applied : goal.returns-clause-applied
 returns-clause-applied c =

@@ -4,7 +4,7 @@ use Rattle.jsonptr_json_search.specs.Search.{choices}
 use Rattle.jsonptr_json_search.specs.declared.selector.Selector.{Selector}
 use Rattle.jsonptr_json_edits.specs.Leading.{LeadsInText, BeginsAt}
 use Rattle.jsonptr_edit_in_text.proofs.OperatingLemmas.{finds_text}
-use Rattle.jsonptr_edit_in_text.proofs.locate.cut_around.Goals as goal
+use Rattle.jsonptr_edit_in_text.proofs.find.cut_around.Goals as goal
 
 pub returns-then-branch : goal.returns-then-branch
 returns-then-branch c =
