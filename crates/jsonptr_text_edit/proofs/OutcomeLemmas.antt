@@ -66,7 +66,7 @@ within text d h = NestsWithin-more (depth d) max_depth (nodes d) (depth-read tex
 same_read : (new other : Text) (d e : Data) → read new ≡ Some d → read other ≡ Some e → nodes d ≡ nodes e → read new ≡ read other
 same_read new other d e h k same = h ∙ ap (λ (x : Data). Some x) (nodes_one d e (ascends_read new d h) (ascends_read other e k) same) ∙ sym k
 
--- ---- a member that gets another key
+-- ---- a member that is renamed
 
 -- the tokens identify one member
 same_member : (n : NodeMap) (ts : List Text) (a b : IsMember n ts) → (a.front ≡ b.front) × (a.x ≡ b.x) × (a.path ≡ b.path)
@@ -175,7 +175,7 @@ module _
   delete_error_one old ts (Memory e) f on going h k = absurd (on tt)
   delete_error_one old ts e f on going h k = absurd h
 
-  -- giving a member another key
+  -- renaming a member
   renamed_map : (n m l : NodeMap) (ts : List Text) (k : Text) → IsTree n → Renames n ts k m → Renames n ts k l → m ≡ l
   renamed_map n m l ts k tree h r =
       let same = same_member n ts h.member r.member in

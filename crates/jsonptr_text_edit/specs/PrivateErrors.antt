@@ -21,7 +21,7 @@ abbrev pub of_read_error : ReadError → EditError
 of_read_error unread.NotJson = NotJson
 of_read_error (unread.Memory e) = Memory e
 
--- `of_rename_error e`: the error of a member that gets another key
+-- `of_rename_error e`: the error of a renaming
 abbrev pub of_rename_error : KindError RenameError → EditError
 of_rename_error kind.NotJson = NotJson
 of_rename_error (kind.Refused e) = Rename e

@@ -18,8 +18,9 @@ pub enum Edit<'a> {
     /// A member or an element is cut out with its comma and the white space that belongs to it. Of several
     /// members with the same key each is cut out. Deleting the root leaves `null`.
     Delete(Pointer<'a>),
-    /// Gives the member of an object that the pointer resolves to another key, as the operation `move` does
-    /// from the pointer to the same object with the new key (RFC 6902, section 4.4).
+    /// Renames the member of an object that the pointer resolves to: it has the key afterwards. The document
+    /// becomes what the operation `move` makes of it, from the pointer to the same object with the new key
+    /// (RFC 6902, section 4.4).
     ///
     /// The member keeps its place among the others. The key is not escaped as in a pointer.
     Rename(Pointer<'a>, &'a str),

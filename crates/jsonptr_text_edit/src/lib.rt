@@ -9,11 +9,13 @@
 //! assert_eq!(rt; new.as_str(), "{\n  \"name\": \"app\",\n  \"sizes\": [1.0, 7.50]\n}\n");
 //! ```
 //!
-//! - [`Edit`] is what to do: assign a value, delete one, give a member another key, or apply a JSON Patch
-//!   (RFC 6902). Each value that it brings has its own text.
+//! - [`Edit`] is what to do: assign a value, delete one, rename a member, or apply a JSON Patch (RFC 6902). Each
+//!   value that it brings has its own text.
 //! - [`edit_text`] makes the edit in a text. One [`Edit`] serves many texts, and so does one [`Buffers`].
 //! - [`Edited`] is the new text. [`Edited::in_place`] returns it only if the layout of the old text stays.
 //! - [`EditError`] is why an edit is not possible.
+//! - [`locate`] returns where a value is, and its own text; [`pointer_at`] which value is at an offset;
+//!   [`indent_text`] the same tokens on lines.
 //! - [`laws`] states that each edit of a text has one outcome.
 //!
 //! [`edit_text`] makes these promises:
@@ -21,9 +23,9 @@
 //! - *Meaning*: the new text reads as the document that the call on documents makes of the document that the
 //!   old text reads as.
 //! - *Bytes*: in place, one piece changes, or one for each operation of a patch, and for each member with the
-//!   key that is deleted. It is the text of the value that is replaced, the name of the member that gets
-//!   another key, or one child that is added or removed, with white space and at most one comma beside it. The
-//!   pointer leads to it in the tokens of the text, so it is no part of a token, and no equal value elsewhere.
+//!   key that is deleted. It is the text of the value that is replaced, the name of the member that is renamed,
+//!   or one child that is added or removed, with white space and at most one comma beside it. The pointer leads
+//!   to it in the tokens of the text, so it is no part of a token, and no equal value elsewhere.
 //! - *Own texts*: in place, a value that the edit brings has the tokens of its own text, one for one: its
 //!   members in their order, and its numbers as they are written.
 //! - *Lines*: in place, a text of one line stays one line.
@@ -45,7 +47,9 @@ mod text;
 pub use edit::Edit;
 pub use edit_error::EditError;
 pub use edited::Edited;
-pub use jsonptr_edit_in_text::RenameError;
+pub use jsonptr_edit_in_text::{
+    IndentError, LocateError, Located, PointerAt, RenameError, indent_text, locate, pointer_at,
+};
 pub use jsonptr_json_edits::buffers::Buffers;
 pub use jsonptr_text_value::{PatchText, RawOperation, RawValue};
 pub use text::edit_text;

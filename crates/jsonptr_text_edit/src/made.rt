@@ -20,8 +20,7 @@ use crate::edit_error::EditError;
 use jsonptr::{Pointer, assign};
 use jsonptr_edit_in_text as in_text;
 use jsonptr_edit_in_text::{
-    RenameError, assign_raw_in_text_with, delete_in_text_with, rename_in_text,
-    try_apply_raw_in_place,
+    RenameError, apply_in_text, assign_in_text, delete_in_text, rename_in_text,
 };
 use jsonptr_json_edits::buffers::Buffers;
 use jsonptr_text_value::{PatchText, RawValue};
@@ -62,8 +61,7 @@ fn assigned(
         (KeepsBytes (AssignsGiven text.now (tokens pointer.entry) raw.now)) }
     ensures refused { IfErr result (FailsToAssign text.now (tokens pointer.entry) raw.now) }
 {
-    let alloc = buffers.alloc;
-    match assign_raw_in_text_with(alloc, buffers, text, pointer, raw) {
+    match assign_in_text(buffers, text, pointer, raw) {
         Ok(edited) => Ok(edited),
         Err(error) => Err(assign_error(error)),
     }
@@ -80,15 +78,14 @@ fn deleted(
     ensures bytes { IfOk result (KeepsBytes (DeletesBytes text.now (tokens pointer.entry))) }
     ensures refused { IfErr result (FailsToDelete text.now (tokens pointer.entry)) }
 {
-    let alloc = buffers.alloc;
-    match delete_in_text_with(alloc, buffers, text, pointer) {
+    match delete_in_text(buffers, text, pointer) {
         Ok(Some(edited)) => Ok(edited),
         Ok(None) => Err(EditError::NotThere),
         Err(error) => Err(read_error(error)),
     }
 }
 
-/// Gives the member that the pointer resolves to another key.
+/// Renames the member that the pointer resolves to.
 fn renamed(
     buffers: &mut Buffers,
     text: &str,
@@ -101,8 +98,7 @@ fn renamed(
         (KeepsBytes (RenamesBytes text.now (tokens pointer.entry) key.now)) }
     ensures refused { IfErr result (FailsToRename text.now (tokens pointer.entry) key.now) }
 {
-    let alloc = buffers.alloc;
-    match rename_in_text(alloc, buffers, text, pointer, key) {
+    match rename_in_text(buffers, text, pointer, key) {
         Ok(edited) => Ok(edited),
         Err(error) => Err(rename_error(error)),
     }
@@ -120,11 +116,9 @@ fn patched(
     ensures refused { IfErr result
         (FailsToPatch text.now (operations_in patch.now.operations.items)) }
 {
-    let alloc = buffers.alloc;
-    let made = try_apply_raw_in_place(alloc, buffers, text, patch.operations.as_slice())?;
-    match made {
+    match apply_in_text(buffers, text, patch.operations.as_slice())? {
         Some(new) => Ok(in_text::Edited::InPlace(new)),
-        None => Ok(in_text::Edited::Rewritten(apply_and_print(alloc, text, patch)?)),
+        None => Ok(in_text::Edited::Rewritten(apply_and_print(buffers.alloc, text, patch)?)),
     }
 }
 
@@ -150,7 +144,7 @@ fn read_error(error: ReadError) -> EditError
     }
 }
 
-/// Returns the error of a member that gets another key.
+/// Returns the error of a renaming.
 fn rename_error(error: in_text::EditError<RenameError>) -> EditError
     ensures { result ≡ of_rename_error error }
 {

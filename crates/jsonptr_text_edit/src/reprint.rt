@@ -3,7 +3,7 @@ ghost use Rattle.std.specs.Prelude.{◌≡◌, Some, IfOk, string_bytes};
 ghost use Rattle.serde_json.specs.Data.{Data};
 ghost use Rattle.serde_json.specs.Read.{read};
 ghost use Rattle.jsonptr_edit_in_text.specs.EditInText.{edited_text};
-ghost use Rattle.jsonptr_edit_in_text.specs.InPlace.{StaysOneLine};
+ghost use Rattle.jsonptr_edit_in_text.specs.OneLine.{StaysOneLine};
 ghost use Rattle.jsonptr_text_edit.specs.Edited.{text_of, IfInPlace};
 ghost use Rattle.jsonptr_text_edit.specs.PrivateKept.{IsMadeAs};
 

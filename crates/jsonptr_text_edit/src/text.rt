@@ -1,6 +1,6 @@
 //! Editing a text.
 ghost use Rattle.std.specs.Prelude.{IfOk, IfErr};
-ghost use Rattle.jsonptr_edit_in_text.specs.InPlace.{StaysOneLine};
+ghost use Rattle.jsonptr_edit_in_text.specs.OneLine.{StaysOneLine};
 ghost use Rattle.jsonptr_text_edit.specs.Edited.{text_of, IfInPlace};
 ghost use Rattle.jsonptr_text_edit.specs.Edits.{EditsText, EditBytes};
 ghost use Rattle.jsonptr_text_edit.specs.Errors.{IsEditError};
@@ -14,14 +14,14 @@ use jsonptr_json_edits::buffers::Buffers;
 
 /// Makes the edit in the document that the text contains, and returns the new text.
 ///
-/// The edit is made in place: all bytes of the text stay but those of the value that is replaced, of the
-/// child that is added or removed, or of the name of the member that gets another key. A value that the edit
-/// brings has the tokens of its own text there, one for one.
+/// The edit is made in place: all bytes of the text stay, except those of the value that is replaced, of the
+/// child that is added or removed, or of the name of the member that is renamed. A value that the edit brings has
+/// the tokens of its own text there, one for one.
 ///
 /// The new text is read side by side with the old one before it is returned. If that fails, or if a text of
 /// one line would have more lines, the document is read, changed and printed, once, and the result is
-/// [`Edited::Reprinted`]. Two cases are known: a member that gets another key in an object with several
-/// members of its old key, and a patch that makes the document deeper than 127 and then less deep again.
+/// [`Edited::Reprinted`]. Two cases are known: a member that is renamed in an object with several members
+/// of its old key, and a patch that makes the document deeper than 127 and then less deep again.
 ///
 /// Reads the old text and the new one two to five times each, for each operation of a patch, and allocates
 /// for both texts, for their unescaped strings and for the values. `buffers` keep their memory from text to
