@@ -12,6 +12,7 @@ use crate::relaid::{Relaid, RelayoutError, RelayoutTextError};
 use crate::style::Style;
 use crate::tree::{TreeNode, read_tree};
 use jsonptr_diff::are_same;
+use jsonptr_json_edits::buffers::Buffers;
 use jsonptr_value::{MAX_DEPTH, if_json, nests_within};
 use serde_json::Value;
 use std::alloc::{AllocError, Global};
@@ -21,7 +22,8 @@ use std::alloc::{AllocError, Global};
 /// Numbers, strings and the order of members are those of `old` where a value is the same, and those of
 /// a printed value where it is new. Two floats are the same if they have the same bits.
 ///
-/// Takes time in proportion to both documents, and a logarithm of the longest array and object.
+/// Takes time in proportion to both documents, and a logarithm of the longest array and object. `buffers` keep
+/// their memory from text to text.
 ///
 /// # Errors
 ///
@@ -32,16 +34,17 @@ use std::alloc::{AllocError, Global};
 /// # Examples
 ///
 /// ```rust
+/// let mut buffers = Buffers::new(alloc);
 /// let new = json!(in alloc; {"a": [1, 2, 3]})?;
-/// let relaid = relayout(alloc, r#"{ "a": [1.0, 2] }"#, &new)?;
+/// let relaid = relayout(&mut buffers, r#"{ "a": [1.0, 2] }"#, &new)?;
 /// assert_eq!(rt; relaid.as_str(), r#"{ "a": [1, 2, 3] }"#);
 /// ```
-pub fn relayout(alloc: Global, old: &str, new: &Value) -> Result<Relaid, RelayoutError>
+pub fn relayout(buffers: &mut Buffers, old: &str, new: &Value) -> Result<Relaid, RelayoutError>
     ensures reads { IfOk result (λ r. ReadsAs (text_of_relaid r) (nodes (view new.now))) }
     ensures kept { ReadsAs old.now (nodes (view new.now)) → IfOk result (KeepsLayout old.now) }
     ensures refused { IfErr result (IsRelayoutError old.now (view new.now)) }
 {
-    relayout_with_texts(alloc, old, new, &[])
+    relayout_with_texts(buffers, old, new, &[])
 }
 
 /// Returns the text of the document `new` in the layout of the text `old`, as [`relayout`] does. A value
@@ -57,12 +60,13 @@ pub fn relayout(alloc: Global, old: &str, new: &Value) -> Result<Relaid, Relayou
 /// # Examples
 ///
 /// ```rust
+/// let mut buffers = Buffers::new(alloc);
 /// let new = json!(in alloc; {"price": 1.1})?;
-/// let relaid = relayout_with_texts(alloc, "{}", &new, &["1.10"])?;
+/// let relaid = relayout_with_texts(&mut buffers, "{}", &new, &["1.10"])?;
 /// assert_eq!(rt; relaid.as_str(), r#"{"price": 1.10}"#);
 /// ```
 pub fn relayout_with_texts(
-    alloc: Global,
+    buffers: &mut Buffers,
     old: &str,
     new: &Value,
     given: &[&str],
@@ -71,6 +75,7 @@ pub fn relayout_with_texts(
     ensures kept { ReadsAs old.now (nodes (view new.now)) → IfOk result (KeepsLayout old.now) }
     ensures refused { IfErr result (IsRelayoutError old.now (view new.now)) }
 {
+    let alloc = buffers.alloc;
     let Some(document) = read_document(alloc, old)? else {
         return Err(RelayoutError::NotJson);
     };
@@ -81,7 +86,7 @@ pub fn relayout_with_texts(
         return Err(RelayoutError::TooDeep);
     }
     let printed = new.to_string(alloc)?;
-    match laid_out(alloc, old, new, printed.as_str(), given)? {
+    match laid_out(buffers, old, new, printed.as_str(), given)? {
         Some(text) => Ok(Relaid::Kept(text)),
         None => Ok(Relaid::Rewritten(printed)),
     }
@@ -99,14 +104,20 @@ pub fn relayout_with_texts(
 /// # Examples
 ///
 /// ```rust
-/// let relaid = relayout_text(alloc, "[1.0, 2]", "[\n  1,\n  2,\n  3.10\n]\n")?;
+/// let mut buffers = Buffers::new(alloc);
+/// let relaid = relayout_text(&mut buffers, "[1.0, 2]", "[\n  1,\n  2,\n  3.10\n]\n")?;
 /// assert_eq!(rt; relaid.as_str(), "[1, 2, 3.10]");
 /// ```
-pub fn relayout_text(alloc: Global, old: &str, new: &str) -> Result<Relaid, RelayoutTextError>
+pub fn relayout_text(
+    buffers: &mut Buffers,
+    old: &str,
+    new: &str,
+) -> Result<Relaid, RelayoutTextError>
     ensures reads { IfOk result (λ r. (d : Data) × (read new.now ≡ Some d) × ReadsAs (text_of_relaid r) (nodes d)) }
     ensures kept { (d : Data) → read new.now ≡ Some d → ReadsAs old.now (nodes d) → IfOk result (KeepsLayout old.now) }
     ensures refused { IfErr result (IsRelayoutTextError old.now new.now) }
 {
+    let alloc = buffers.alloc;
     let Some(document) = read_document(alloc, old)? else {
         return Err(RelayoutTextError::OldNotJson);
     };
@@ -116,7 +127,7 @@ pub fn relayout_text(alloc: Global, old: &str, new: &str) -> Result<Relaid, Rela
     if are_same(&document, &value) {
         return Ok(Relaid::Kept(String::from_str(alloc, old)?));
     }
-    match laid_out(alloc, old, &value, new, &[])? {
+    match laid_out(buffers, old, &value, new, &[])? {
         Some(text) => Ok(Relaid::Kept(text)),
         None => Ok(Relaid::Rewritten(String::from_str(alloc, new)?)),
     }
@@ -140,7 +151,7 @@ fn read_document(alloc: Global, text: &str) -> Result<Option<Value>, AllocError>
 ///
 /// [`AllocError`] if an allocation fails.
 fn laid_out(
-    alloc: Global,
+    buffers: &mut Buffers,
     old: &str,
     new: &Value,
     printed: &str,
@@ -148,10 +159,10 @@ fn laid_out(
 ) -> Result<Option<String>, AllocError>
     ensures { IfOk result (λ o. IfSome o (λ s. ReadsAs (string_bytes s) (nodes (view new.now)))) }
 {
-    let Some(candidate) = candidate(alloc, old, printed, given)? else {
+    let Some(candidate) = candidate(buffers, old, printed, given)? else {
         return Ok(None);
     };
-    match read_document(alloc, candidate.as_str())? {
+    match read_document(buffers.alloc, candidate.as_str())? {
         Some(document) => if are_same(&document, new) {
             Ok(Some(candidate))
         } else {
@@ -168,24 +179,24 @@ fn laid_out(
 ///
 /// [`AllocError`] if an allocation fails.
 fn candidate(
-    alloc: Global,
+    buffers: &mut Buffers,
     old: &str,
     printed: &str,
     given: &[&str],
 ) -> Result<Option<String>, AllocError> {
-    let Some(from) = tree_of(alloc, old)? else {
+    let Some(from) = tree_of(buffers, old)? else {
         return Ok(None);
     };
-    let Some(to) = tree_of(alloc, printed)? else {
+    let Some(to) = tree_of(buffers, printed)? else {
         return Ok(None);
     };
-    let given_trees = trees_of(alloc, given)?;
+    let given_trees = trees_of(buffers, given)?;
     let trees = Trees {
         from,
         to,
         given: given_trees,
     };
-    Ok(Some(relaid_text(alloc, old, printed, given, &trees)?))
+    Ok(Some(relaid_text(buffers.alloc, old, printed, given, &trees)?))
 }
 
 /// The trees of texts.
@@ -229,15 +240,15 @@ fn relaid_text<'t>(
 }
 
 /// Reads the text, or returns `None` if it is not JSON.
-fn tree_of(alloc: Global, text: &str) -> Result<Option<TreeNode>, AllocError> {
-    if_json(read_tree(alloc, text))
+fn tree_of(buffers: &mut Buffers, text: &str) -> Result<Option<TreeNode>, AllocError> {
+    if_json(read_tree(buffers, text))
 }
 
 /// Reads each of the texts.
-fn trees_of(alloc: Global, texts: &[&str]) -> Result<Vec<Option<TreeNode>>, AllocError> {
-    let mut trees = Vec::new(alloc);
+fn trees_of(buffers: &mut Buffers, texts: &[&str]) -> Result<Vec<Option<TreeNode>>, AllocError> {
+    let mut trees = Vec::new(buffers.alloc);
     for text in texts {
-        trees.push(tree_of(alloc, text)?)?;
+        trees.push(tree_of(buffers, text)?)?;
     }
     Ok(trees)
 }

@@ -1,9 +1,10 @@
 //! Prints a JSON document in the layout of an older text of it.
 //!
 //! ```rust
+//! let mut buffers = Buffers::new(alloc);
 //! let old = "{\n    \"name\": \"app\",\n    \"sizes\": [1.0, 5]\n}\n";
 //! let new = json!(in alloc; {"name": "app", "sizes": [1.0, 7], "draft": true})?;
-//! let relaid = relayout(alloc, old, &new)?;
+//! let relaid = relayout(&mut buffers, old, &new)?;
 //! let text = "{\n    \"name\": \"app\",\n    \"sizes\": [1.0, 7],\n    \"draft\": true\n}\n";
 //! assert_eq!(rt; relaid.as_str(), text);
 //! ```
@@ -35,5 +36,6 @@ mod relaid;
 mod style;
 mod tree;
 
+pub use jsonptr_json_edits::buffers::Buffers;
 pub use layout::{relayout, relayout_text, relayout_with_texts};
 pub use relaid::{Relaid, RelayoutError, RelayoutTextError};

@@ -2,7 +2,8 @@
 ghost use Rattle.std.specs.Prelude.{◌<◌, ◌≤◌, length, OnOk};
 
 use crate::hash;
-use json::{Reader, Scratch, Token};
+use json::{Reader, Token};
+use jsonptr_json_edits::buffers::Buffers;
 use jsonptr_json_edits::locate::{Span, end_of_value};
 use jsonptr_value::{MAX_DEPTH, ReadError};
 use std::alloc::Global;
@@ -57,9 +58,9 @@ struct Parts {
 /// # Errors
 ///
 /// [`ReadError::NotJson`] if the text is not JSON, and [`ReadError::Memory`] if an allocation fails.
-pub fn read_tree(alloc: Global, text: &str) -> Result<TreeNode, ReadError> {
-    let mut scratch = Scratch::new(alloc);
-    let mut reader = Reader::new(text, &mut scratch)?;
+pub fn read_tree(buffers: &mut Buffers, text: &str) -> Result<TreeNode, ReadError> {
+    let alloc = buffers.alloc;
+    let mut reader = Reader::new(text, &mut buffers.old)?;
     let node = read_node(alloc, text, &mut reader, MAX_DEPTH)?;
     match reader.next() {
         None => Ok(node),
