@@ -73,7 +73,7 @@ comments_after text tokens made e ps h =
     ∙ framed_comments e.head e.added e.gap e.new e.tail (no_comma_comment e.added e.put)
     ∙ ap (λ (r : List (List ℕ)). kept_before e ++ r) (sym (comments-append e.new e.tail))
 
--- ---- another key
+-- ---- renaming
 
 -- pieces without a comment do not count
 unnamed_comments : (head name tail : List Piece) → comments_of name ≡ [] → comments_of (head ++ (name ++ tail)) ≡ comments_of head ++ comments_of tail

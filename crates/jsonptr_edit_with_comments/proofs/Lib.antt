@@ -1,4 +1,3 @@
-pub mod EditLemmas
 pub mod CheckLemmas
 pub mod KeptLemmas
 pub mod PatchLemmas

@@ -1,22 +1,18 @@
 -- What is known of a text with comments after a patch.
-use Rattle.std.proofs.Common.{◌≡◌, List, [], ◌∷◌, ◌++◌, String, Result, Ok, Err, IfOk, string_bytes, refl, sym, subst}
-use Rattle.std.specs.declared.alloc.Global.{Global}
+use Rattle.std.proofs.Common.{List, [], ◌∷◌, ◌++◌, refl, sym, subst}
 use Rattle.jsonptr.specs.Text.{Text}
 use Rattle.jsonptr_comments.specs.Comments.{IsWithoutComments}
 use Rattle.jsonptr_patch.specs.declared.operation.Operation.{Operation}
 use Rattle.jsonptr_patch.specs.declared.operation.Operation.TheVariants.{Add, Remove, Replace, Move, Copy, Test}
-use Rattle.jsonptr_patch.specs.declared.failed_operation.FailedOperation.{FailedOperation}
 use Rattle.jsonptr_text_value.specs.Operations.{operations_in}
 use Rattle.jsonptr_text_value.specs.declared.raw_operation.RawOperation.{RawOperation}
 use Rattle.jsonptr_text_value.proofs.ListLemmas.{operations_push}
-use Rattle.jsonptr_edit_in_text.specs.PatchInText.{PatchesInText, OperationBytes}
+use Rattle.jsonptr_edit_in_text.specs.PatchInText.{PatchesInText}
 use Rattle.jsonptr_edit_in_text.specs.RawPatching.{GivenBytes}
 use Rattle.jsonptr_edit_in_text.proofs.OperatingLemmas.{patches_first, patches_more}
-use Rattle.jsonptr_edit_in_text.proofs.RawLemmas.{patch_bytes}
 use Rattle.jsonptr_edit_with_comments.specs.EditWithComments.{Becomes}
-use Rattle.jsonptr_edit_with_comments.specs.Patches.{OperationEdits, PatchEdits, EditsAt, OperatesAs, CommentedPatchBytes, CommentedRawPatchBytes}
+use Rattle.jsonptr_edit_with_comments.specs.Patches.{OperationEdits, PatchEdits, OperatesAs, CommentedPatchBytes}
 use Rattle.jsonptr_edit_with_comments.specs.PrivateStepping.{IsOperated, IsPatched}
-use Rattle.jsonptr_edit_with_comments.specs.declared.error.WithCommentsError.{WithCommentsError}
 
 -- ---- all operations
 
@@ -28,7 +24,7 @@ patched_first text bare mid rest made json r rs h k = record {
   bytes = (mid, h.bytes, k.bytes);
 }
 
-bytes_push : (text mid made : Text) (rs : List RawOperation) (r : RawOperation) → CommentedRawPatchBytes text rs mid → OperatesAs (λ old new. GivenBytes old r.operation r.raw new) mid r.operation made → CommentedRawPatchBytes text (rs ++ r ∷ []) made
+bytes_push : (text mid made : Text) (rs : List RawOperation) (r : RawOperation) → CommentedPatchBytes text rs mid → OperatesAs (λ old new. GivenBytes old r.operation r.raw new) mid r.operation made → CommentedPatchBytes text (rs ++ r ∷ []) made
 bytes_push text mid made [] r h last = (made, subst (λ (t : Text). OperatesAs (λ old new. GivenBytes old r.operation r.raw new) t r.operation made) h last, refl)
 bytes_push text mid made (q ∷ rs) r h last = (h.0, h.1, bytes_push h.0 mid made rs r h.2 last)
 
@@ -54,35 +50,6 @@ operation_pieces P text (Move from path) made h = (h.1, h.2.1, h.3.1)
 operation_pieces P text (Copy from path) made h = h.1
 operation_pieces P text (Test path value) made h = h
 
-pub patch_pieces : (text made : Text) (rs : List RawOperation) → CommentedRawPatchBytes text rs made → PatchEdits text (operations_in rs) made
+pub patch_pieces : (text made : Text) (rs : List RawOperation) → CommentedPatchBytes text rs made → PatchEdits text (operations_in rs) made
 patch_pieces text made [] h = h
 patch_pieces text made (r ∷ rs) h = (h.0, operation_pieces (λ old new. GivenBytes old r.operation r.raw new) text r.operation h.0 h.1, patch_pieces h.0 made rs h.2)
-
--- ---- the texts of values left aside
-
-given_plain : (old new : Text) (r : RawOperation) → GivenBytes old r.operation r.raw new → OperationBytes old r.operation new
-given_plain old new r h = let p = patch_bytes old new (r ∷ []) (new, h, refl) in subst (λ (t : Text). OperationBytes old r.operation t) (sym p.2) p.1
-
-plain_at : (P Q : Text → Text → Type 0) (text : Text) (path : List Text) (made : Text) → ((old new : Text) → P old new → Q old new) → EditsAt P text path made → EditsAt Q text path made
-plain_at P Q text path made f h = ((h.0.0, h.0.1, h.0.2, h.0.3, f h.0.0 h.0.1 h.0.4), h.1)
-
-operates_plain : (P Q : Text → Text → Type 0) (text : Text) (o : Operation) (made : Text) → ((old new : Text) → P old new → Q old new) → OperatesAs P text o made → OperatesAs Q text o made
-operates_plain P Q text (Add path value) made f h = plain_at P Q text path made f h
-operates_plain P Q text (Remove path) made f h = plain_at P Q text path made f h
-operates_plain P Q text (Replace path value) made f h = plain_at P Q text path made f h
-operates_plain P Q text (Move from path) made f h = h
-operates_plain P Q text (Copy from path) made f h = plain_at P Q text path made f h
-operates_plain P Q text (Test path value) made f h = h
-
-patch_plain : (text made : Text) (rs : List RawOperation) → CommentedRawPatchBytes text rs made → CommentedPatchBytes text (operations_in rs) made
-patch_plain text made [] h = h
-patch_plain text made (r ∷ rs) h = (
-  h.0,
-  operates_plain (λ old new. GivenBytes old r.operation r.raw new) (λ old new. OperationBytes old r.operation new) text r.operation h.0 (λ old new g. given_plain old new r g) h.1,
-  patch_plain h.0 made rs h.2,
-)
-
-pub plain_bytes : (r : Result (String Global) (WithCommentsError FailedOperation)) (text : Text) (rs : List RawOperation) (os : List Operation) → operations_in rs ≡ os
-    → IfOk r (λ s. CommentedRawPatchBytes text rs (string_bytes s)) → IfOk r (λ s. CommentedPatchBytes text os (string_bytes s))
-plain_bytes (Err e) text rs os same h = h
-plain_bytes (Ok s) text rs os same h = subst (λ (l : List Operation). CommentedPatchBytes text l (string_bytes s)) same (patch_plain text (string_bytes s) rs h)

@@ -1,15 +1,8 @@
 -- What is known of a text with comments after one edit.
-use Rattle.std.proofs.Common.{◌≡◌, List, String, Result, Ok, Err, IfOk, string_bytes, ◌∙◌, subst}
-use Rattle.std.specs.declared.alloc.Global.{Global}
+use Rattle.std.proofs.Common.{◌≡◌, List, ◌∙◌}
 use Rattle.json.specs.Lex.{tokens as lexed}
-use Rattle.serde_json.specs.Data.{Data}
 use Rattle.jsonptr.specs.Text.{Text}
-use Rattle.jsonptr.specs.declared.assign.Error.{Error as AssignError}
-use Rattle.jsonptr_text_value.specs.Raw.{value_of_raw}
-use Rattle.jsonptr_text_value.specs.declared.raw_value.RawValue.{RawValue}
 use Rattle.jsonptr_text_value.proofs.WrappingLemmas.{read_same}
-use Rattle.jsonptr_edit_in_text.specs.Bytes.{AssignsBytes}
-use Rattle.jsonptr_edit_in_text.specs.Giving.{AssignsGiven}
 use Rattle.jsonptr_edit_in_text.specs.Renaming.{RenamesInText, RenamesBytes}
 use Rattle.jsonptr_edit_in_text.specs.Steps.{StepsText}
 use Rattle.jsonptr_edit_in_text.specs.declared.step.Step.{Step}
@@ -18,7 +11,6 @@ use Rattle.jsonptr_comments.specs.Comments.{IsWithoutComments}
 use Rattle.jsonptr_edit_with_comments.specs.EditWithComments.{Becomes, EditsAs}
 use Rattle.jsonptr_edit_with_comments.specs.Patches.{EditsAt}
 use Rattle.jsonptr_edit_with_comments.specs.PrivateStepping.{step_tokens, IsStepped, IsRenamedAs}
-use Rattle.jsonptr_edit_with_comments.specs.declared.error.WithCommentsError.{WithCommentsError}
 
 -- a text with the same tokens is read as the same document
 step_same : (old new json : Text) (s : Step) → lexed json ≡ lexed new → StepsText old s new → StepsText old s json
@@ -41,16 +33,9 @@ edits_as P text bare s made json h p = (bare, h.new, h.was, (json, h.put.without
 pub edits_at : (P : Text → Text → Type 0) (text bare : Text) (s : Step) (made json : Text) (h : IsStepped text bare s made json) → P bare h.new → EditsAt P text (step_tokens s) made
 edits_at P text bare s made json h p = (edits_as P text bare s made json h p, h.put.piece)
 
--- the same of a member that gets another key
+-- the same of a member that is renamed
 pub renamed_becomes : (text bare new made : Text) (ts : List Text) (k : Text) → IsWithoutComments text bare → RenamesInText bare ts k new → IsRenamedAs new text ts made → Becomes (λ old json. RenamesInText old ts k json) text made
 renamed_becomes text bare new made ts k w h p = (bare, p.json, w, p.without, (h.0, h.1, h.2, read_same p.json new p.same ∙ h.3, h.4))
 
 pub renamed_bytes : (text bare new made : Text) (ts : List Text) (k : Text) → IsWithoutComments text bare → RenamesBytes bare ts k new → IsRenamedAs new text ts made → EditsAs (λ old json. RenamesBytes old ts k json) text made
 renamed_bytes text bare new made ts k w h p = (bare, new, w, (p.json, p.without, p.same), h)
-
--- a value that is printed: the tokens of its text left aside
-pub value_bytes : (r : Result (String Global) (WithCommentsError AssignError)) (text : Text) (ts : List Text) (raw : RawValue) (v : Data) → value_of_raw raw ≡ v
-    → IfOk r (λ s. EditsAs (λ old new. AssignsBytes old ts (value_of_raw raw) new × AssignsGiven old ts raw new) text (string_bytes s))
-    → IfOk r (λ s. EditsAs (λ old new. AssignsBytes old ts v new) text (string_bytes s))
-value_bytes (Err e) text ts raw v same h = h
-value_bytes (Ok s) text ts raw v same h = (h.0, h.1, h.2, h.3, subst (λ (d : Data). AssignsBytes h.0 ts d h.1) same h.4.0)

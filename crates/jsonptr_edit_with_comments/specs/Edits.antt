@@ -97,7 +97,7 @@ pub record IsOneEdit (text : Text) (tokens : List Text) (made : Text) : Type 0 w
   pub without : IsWithoutComments text bare
   pub what : IsChange bare tokens (head ++ (comma ++ gap)) inner new
 
--- ---- another key
+-- ---- renaming
 
 -- `IsNameOf bare tokens name after`: in the text without comments, `bare`, the text `name` is one of the last of `tokens`, without
 -- white space around it. What follows it, `after`, is a colon and the own text of the value to which `tokens` lead

@@ -6,7 +6,7 @@ use Rattle.jsonptr_in_text.specs.InText.{FindsInText}
 use Rattle.jsonptr_patch.specs.declared.operation.Operation.{Operation}
 use Rattle.jsonptr_patch.specs.declared.operation.Operation.TheVariants.{Add, Remove, Replace, Move, Copy, Test}
 use Rattle.jsonptr_edit_in_text.specs.Bytes.{DeletesBytes}
-use Rattle.jsonptr_edit_in_text.specs.PatchInText.{AddsAtBytes, OperationBytes}
+use Rattle.jsonptr_edit_in_text.specs.PatchInText.{AddsAtBytes}
 use Rattle.jsonptr_edit_in_text.specs.RawPatching.{GivenBytes}
 use Rattle.jsonptr_text_value.specs.declared.raw_operation.RawOperation.{RawOperation}
 use Rattle.jsonptr_edit_with_comments.specs.EditWithComments.{EditsAs}
@@ -55,16 +55,10 @@ OperatesAs P text (Move from path) made = MovesAt text from path made
 OperatesAs P text (Copy from path) made = EditsAt P text path made
 OperatesAs P text (Test path value) made = made ≡ text
 
--- `CommentedPatchBytes text os made`: which bytes the operations `os` change, each in the text with comments that the one before
--- left
-abbrev pub CommentedPatchBytes : Text → List Operation → Text → Type 0
+-- `CommentedPatchBytes text rs made`: which bytes the operations `rs` change, each in the text with comments that the one before
+-- left. What an operation brings has the tokens of its own text
+abbrev pub CommentedPatchBytes : Text → List RawOperation → Text → Type 0
 CommentedPatchBytes text [] made = made ≡ text
-CommentedPatchBytes text (o ∷ os) made =
-    (next : Text) × OperatesAs (λ old new. OperationBytes old o new) text o next × CommentedPatchBytes next os made
-
--- `CommentedRawPatchBytes text rs made`: the same of operations whose values bring their own texts
-abbrev pub CommentedRawPatchBytes : Text → List RawOperation → Text → Type 0
-CommentedRawPatchBytes text [] made = made ≡ text
-CommentedRawPatchBytes text (r ∷ rs) made =
+CommentedPatchBytes text (r ∷ rs) made =
     (next : Text) × OperatesAs (λ old new. GivenBytes old r.operation r.raw new) text r.operation next
-    × CommentedRawPatchBytes next rs made
+    × CommentedPatchBytes next rs made

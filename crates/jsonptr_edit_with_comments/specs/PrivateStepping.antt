@@ -15,7 +15,7 @@ use Rattle.jsonptr_edit_in_text.specs.Steps.{StepsText, StepBytes}
 use Rattle.jsonptr_edit_in_text.specs.declared.step.Step.{Step}
 use Rattle.jsonptr_edit_in_text.specs.declared.step.Step.TheVariants.{Assign, Delete, Add, Replace, Rename}
 use Rattle.jsonptr_edit_with_comments.specs.Edits.{IsOneEdit, IsRenaming}
-use Rattle.jsonptr_edit_with_comments.specs.Patches.{OperatesAs, CommentedRawPatchBytes}
+use Rattle.jsonptr_edit_with_comments.specs.Patches.{OperatesAs, CommentedPatchBytes}
 
 -- `step_tokens step`: the tokens of the pointer at which the step edits
 abbrev pub step_tokens : Step → List Text
@@ -60,4 +60,4 @@ pub record IsOperated (text bare : Text) (o : Operation) (raw : Option RawValue)
 pub record IsPatched (text bare : Text) (rs : List RawOperation) (made json : Text) : Type 0 where
   pub without : IsWithoutComments made json
   pub means : PatchesInText bare (operations_in rs) json
-  pub bytes : CommentedRawPatchBytes text rs made
+  pub bytes : CommentedPatchBytes text rs made

@@ -1,22 +1,22 @@
 //! Deleting in a text with comments.
-ghost use Rattle.std.specs.Prelude.{IfOk, IfErr, IfSome, MatchOption, string_bytes};
+ghost use Rattle.std.specs.Prelude.{IfOk, IfSome, string_bytes};
 ghost use Rattle.jsonptr.specs.Pointer.{tokens};
 ghost use Rattle.jsonptr_edit_in_text.specs.Bytes.{DeletesBytes};
 ghost use Rattle.jsonptr_edit_in_text.specs.EditInText.{DeletesInText};
-ghost use Rattle.jsonptr_edit_with_comments.specs.EditWithComments.{Becomes, EditsAs, Lacks, IsDeleteError};
+ghost use Rattle.jsonptr_edit_with_comments.specs.EditWithComments.{Becomes, EditsAs};
 ghost use Rattle.jsonptr_edit_with_comments.specs.Edits.{IsOneEdit};
 
-use crate::error::{WithCommentsError, read_past};
 use crate::step::take_commented_step;
-use crate::texts::{Texts, TextsBuf};
+use crate::texts::{Texts, TextsBuf, has_bare};
 use jsonptr::Pointer;
-use jsonptr_edit_in_text::{Step, delete_in_place};
+use jsonptr_comments::CommentedText;
+use jsonptr_edit_in_text::Step;
 use jsonptr_json_edits::buffers::Buffers;
-use std::alloc::Global;
-use std::convert::Infallible;
+use std::alloc::AllocError;
 
-/// Deletes the value that the pointer resolves to in the document that the text with comments contains, as
-/// [`delete_in_place`] does in a text without comments. Returns `None` if it resolves to nothing.
+/// Deletes the value that the pointer resolves to in the document that the text with comments contains, in one
+/// piece. Returns `None` if that is not possible, as where the object has several members with the key, and if
+/// there is no such value.
 ///
 /// The comments inside the child go with it, and those after it on its line, also after its comma. Those
 /// on lines above it stay, and so do those between its line and a comma that is on a later line. Where it
@@ -25,46 +25,38 @@ use std::convert::Infallible;
 ///
 /// # Errors
 ///
-/// - [`WithCommentsError::Comment`] if a block comment is not closed.
-/// - [`WithCommentsError::NotJson`] if `serde_json` does not read the text without comments.
-/// - [`WithCommentsError::NotInPlace`] if the edit is possible, but is not made in one piece of the text
-///   with comments, as for two members with the same key.
-/// - [`WithCommentsError::Memory`] if an allocation fails.
+/// [`AllocError`] if an allocation fails.
 ///
 /// # Examples
 ///
 /// ```rust
-/// let text = "[\n  1, // one\n  // above two\n  2, // two\n  3\n]\n";
 /// let mut buffers = Buffers::new(alloc);
-/// let new = delete_with_comments(alloc, &mut buffers, text, Pointer::parse("/1")?)?;
+/// let text = "[\n  1, // one\n  // above two\n  2, // two\n  3\n]\n";
+/// let read = CommentedText::read(alloc, text)?;
+/// let new = delete_with_comments(&mut buffers, &read, Pointer::parse("/1")?)?;
 /// let want = "[\n  1, // one\n  // above two\n  3\n]\n";
-/// assert_eq!(rt; new.ok_or("a value")?.as_str(), want);
+/// assert_eq!(rt; new.ok_or("an edit in place")?.as_str(), want);
 /// ```
 pub fn delete_with_comments(
-    alloc: Global,
     buffers: &mut Buffers,
-    text: &str,
+    text: &CommentedText<'_>,
     pointer: Pointer<'_>,
-) -> Result<Option<String>, WithCommentsError<Infallible>>
-    ensures deleted { IfOk result (λ o. MatchOption o (Lacks text.now (tokens pointer.entry))
-        (λ s. Becomes (λ old new. DeletesInText old (tokens pointer.entry) new) text.now (string_bytes s))) }
+) -> Result<Option<String>, AllocError>
+    ensures deleted { IfOk result (λ o. IfSome o (λ s. Becomes
+        (λ old new. DeletesInText old (tokens pointer.entry) new) text.now.text.now (string_bytes s))) }
     ensures bytes { IfOk result (λ o. IfSome o (λ s. EditsAs
-        (λ old new. DeletesBytes old (tokens pointer.entry) new) text.now (string_bytes s))) }
+        (λ old new. DeletesBytes old (tokens pointer.entry) new) text.now.text.now (string_bytes s))) }
     ensures pieces { IfOk result (λ o. IfSome o
-        (λ s. IsOneEdit text.now (tokens pointer.entry) (string_bytes s))) }
-    ensures refused { IfErr result (IsDeleteError text.now (tokens pointer.entry)) }
+        (λ s. IsOneEdit text.now.text.now (tokens pointer.entry) (string_bytes s))) }
 {
-    let read = read_past(alloc, text)?;
+    has_bare(text);
     let texts = Texts {
-        text,
-        bare: read.bare.as_str(),
+        text: text.text,
+        bare: text.bare.as_str(),
     };
-    if let Some(new) = take_commented_step(buffers, texts, Step::Delete(pointer))? {
-        let TextsBuf { text: made, .. } = new;
-        return Ok(Some(made));
-    }
-    match delete_in_place(alloc, buffers, texts.bare, pointer)? {
-        Some(_new) => Err(WithCommentsError::NotInPlace),
-        None => Ok(None),
-    }
+    let Some(new) = take_commented_step(buffers, texts, Step::Delete(pointer))? else {
+        return Ok(None);
+    };
+    let TextsBuf { text: made, .. } = new;
+    Ok(Some(made))
 }

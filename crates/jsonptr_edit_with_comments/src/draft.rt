@@ -1,7 +1,7 @@
 //! A text that is to be another one after one edit.
-ghost use Rattle.std.specs.Prelude.{IsTrue};
+ghost use Rattle.std.specs.Prelude.{length, IsTrue};
 ghost use Rattle.jsonptr.specs.Pointer.{tokens};
-ghost use Rattle.jsonptr_edit_with_comments.specs.PrivateChecking.{IsRun, IsFramed, IsChanged};
+ghost use Rattle.jsonptr_edit_with_comments.specs.PrivateChecking.{IsRun, IsOneRun, IsFramed, IsChanged};
 ghost use Rattle.jsonptr_comments.specs.declared.piece.Allowed.TheVariants.{NoComment};
 
 use crate::part::{Part, is_comma_or_none, is_one_run, is_run};
@@ -79,15 +79,23 @@ pub fn is_framed(draft: &Draft<'_>) -> bool
     if !is_one_run(gap, new_gap) {
         return false;
     }
+    has_same_tail(draft)
+}
+
+/// Returns whether what follows the edit in both texts is whole pieces, and the same ones.
+pub fn has_same_tail(draft: &Draft<'_>) -> bool
+    ensures { IsTrue result → IsOneRun draft.now.text.now draft.now.replaced.to (length draft.now.text.now)
+        draft.now.made.now draft.now.new.to (length draft.now.made.now) }
+{
     let tail = Part {
-        text,
+        text: draft.text,
         from: draft.replaced.to,
-        to: text.len(),
+        to: draft.text.len(),
     };
     let new_tail = Part {
-        text: made,
+        text: draft.made,
         from: draft.new.to,
-        to: made.len(),
+        to: draft.made.len(),
     };
     is_one_run(tail, new_tail)
 }

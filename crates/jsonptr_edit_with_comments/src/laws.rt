@@ -10,7 +10,7 @@ ghost use Rattle.jsonptr_edit_with_comments.specs.Patches.{PatchEdits};
 
 /// States that an edit keeps each comment, in its order, except those in the value that is replaced, or in the
 /// child that is removed and beside it on its line; and that a text after a patch has the comments of the text
-/// before it, in their order, with some left out. A text in which a member got another key has all of them.
+/// before it, in their order, with some left out. A text in which a member is renamed has all of them.
 pub fn comments_law()
     ensures before { (text : Text) (tokens : List Text) (made : Text) (e : IsOneEdit text tokens made)
         (ps : List Piece) → Pieces text ps []

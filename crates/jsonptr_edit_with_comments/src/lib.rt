@@ -1,18 +1,20 @@
 //! Edits of JSON text with comments and trailing commas, in place.
 //!
 //! ```rust
-//! let text = "{\n  \"size\": 3, // px\n}\n";
 //! let mut buffers = Buffers::new(alloc);
+//! let text = CommentedText::read(alloc, "{\n  \"size\": 3, // px\n}\n")?;
 //! let path = Pointer::parse("/name")?;
-//! let value = json!(in alloc; "app")?;
-//! let new = assign_with_comments(alloc, &mut buffers, text, path, value)?;
+//! let name = RawValue::parse(alloc, "\"app\"")?;
+//! let new = assign_with_comments(&mut buffers, &text, path, &name)?.ok_or("an edit in place")?;
 //! assert_eq!(rt; new.as_str(), "{\n  \"size\": 3, // px\n  \"name\": \"app\",\n}\n");
 //! ```
 //!
+//! `jsonptr_comments_edit` makes one call of the edits, `edit_commented`, and says why one is not possible. A
+//! program uses that one, and this crate is for crates of edits.
+//!
 //! - [`assign_with_comments`] and [`delete_with_comments`] edit at a pointer, as `assign` and `delete` do.
-//! - [`rename_with_comments`] gives a member of an object another key.
-//! - [`apply_with_comments`] applies a patch (RFC 6902).
-//! - [`assign_raw_with_comments`] and [`apply_raw_with_comments`] bring values with their own texts.
+//! - [`rename_with_comments`] renames a member of an object.
+//! - [`apply_with_comments`] applies the operations of a patch (RFC 6902).
 //!
 //! Each call makes three promises. *Meaning*: without its comments, the new text reads as the document
 //! that the call on documents makes. *Tokens*: without its comments, it has the tokens that the edit of
@@ -33,7 +35,6 @@ mod change;
 mod child;
 mod delete;
 mod draft;
-mod error;
 mod gap;
 pub mod laws;
 mod name;
@@ -46,9 +47,9 @@ mod step;
 mod texts;
 mod value;
 
-pub use apply::{apply_raw_with_comments, apply_with_comments, try_apply_raw_with_comments};
-pub use assign::{assign_raw_with_comments, assign_with_comments};
+pub use apply::apply_with_comments;
+pub use assign::assign_with_comments;
 pub use delete::delete_with_comments;
-pub use error::WithCommentsError;
-pub use jsonptr_edit_in_text::{Buffers, RawOperation, RawValue, RenameError};
+pub use jsonptr_comments::CommentedText;
+pub use jsonptr_edit_in_text::{Buffers, RawOperation, RawValue};
 pub use rename::rename_with_comments;

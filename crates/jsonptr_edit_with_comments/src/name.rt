@@ -5,7 +5,7 @@ ghost use Rattle.jsonptr_comments.specs.Comments.{IsWithoutComments};
 ghost use Rattle.jsonptr_edit_with_comments.specs.Edits.{IsRenaming};
 ghost use Rattle.jsonptr_edit_with_comments.specs.PrivateChecking.{AreRunsOfName, IsNameAt, IsNameCut};
 
-use crate::draft::{Draft, has_new_run};
+use crate::draft::{Draft, has_new_run, has_same_tail};
 use crate::part::{Part, is_one_run, is_run};
 use crate::value::find_value;
 use jsonptr_comments::piece::Allowed;
@@ -32,7 +32,7 @@ pub fn is_renaming(buffers: &mut Buffers, draft: &Draft<'_>) -> Result<bool, All
     is_name_at(buffers, draft)
 }
 
-/// Returns whether both texts are the same pieces, but for pieces without a comment, which are replaced.
+/// Returns whether both texts are the same pieces, except for pieces without a comment, which are replaced.
 fn are_runs(draft: &Draft<'_>) -> bool
     ensures { IsTrue result → AreRunsOfName draft.now.text.now draft.now.replaced.from draft.now.replaced.to
         draft.now.made.now draft.now.new.from draft.now.new.to }
@@ -63,17 +63,7 @@ fn are_runs(draft: &Draft<'_>) -> bool
     if !has_new_run(draft) {
         return false;
     }
-    let tail = Part {
-        text,
-        from: draft.replaced.to,
-        to: text.len(),
-    };
-    let new_tail = Part {
-        text: made,
-        from: draft.new.to,
-        to: made.len(),
-    };
-    is_one_run(tail, new_tail)
+    has_same_tail(draft)
 }
 
 /// Returns whether what is replaced in the text without comments is the name of the member to whose value the

@@ -1,88 +1,71 @@
-//! Giving a member of an object another key in a text with comments.
-ghost use Rattle.std.specs.Prelude.{◌≡◌, ◌⊎◌, IfOk, IfErr, IfSome, string_bytes};
+//! Renaming a member of an object in a text with comments.
+ghost use Rattle.std.specs.Prelude.{◌≡◌, ◌⊎◌, IfOk, IfSome, string_bytes};
 ghost use Rattle.jsonptr.specs.Pointer.{tokens};
 ghost use Rattle.jsonptr_comments.specs.Comments.{IsWithoutComments};
-ghost use Rattle.jsonptr_edit_in_text.specs.Renaming.{RenamesInText, RenamesBytes, IsRenameError};
-ghost use Rattle.jsonptr_edit_with_comments.specs.EditWithComments.{Becomes, EditsAs, IsWithCommentsError};
+ghost use Rattle.jsonptr_edit_in_text.specs.Renaming.{RenamesInText, RenamesBytes};
+ghost use Rattle.jsonptr_edit_with_comments.specs.EditWithComments.{Becomes, EditsAs};
 ghost use Rattle.jsonptr_edit_with_comments.specs.Edits.{IsRenaming};
 ghost use Rattle.jsonptr_edit_with_comments.specs.PrivateStepping.{IsRenamedAs};
 
 use crate::draft::Draft;
-use crate::error::{WithCommentsError, read_past};
 use crate::name::is_renaming;
 use crate::same::have_same_tokens;
 use crate::step::bare_of;
-use crate::texts::Texts;
+use crate::texts::{Texts, has_bare};
 use jsonptr::Pointer;
+use jsonptr_comments::CommentedText;
 use jsonptr_edit_in_text::plan::{Made, Plan, Renamed};
-use jsonptr_edit_in_text::{InPlaceError, RenameError, Step, rename_in_text, take_step};
+use jsonptr_edit_in_text::{Step, take_step};
 use jsonptr_json_edits::buffers::Buffers;
 use jsonptr_json_edits::cut::{cut_at, splice};
 use jsonptr_json_edits::locate::Span;
-use std::alloc::{AllocError, Global};
+use std::alloc::AllocError;
 
-/// Gives the member of an object that the pointer resolves to another key, in the document that the text with
-/// comments contains, as [`rename_in_text`] does in a text without comments.
+/// Renames the member of an object that the pointer resolves to, in the document that the text with comments
+/// contains. Returns `None` if the new name cannot be put where the old one is, as where the object has several
+/// members with the old key, and if the member cannot have the key.
 ///
-/// Only the name of the member changes: the member keeps its place, its value and the white space around it, and
-/// all comments stay where they are. If it has the key already, the text is unchanged.
+/// Only the name of the member changes: the member keeps its place among the others, its value and its white
+/// space, and all comments stay where they are. If it has the key already, the text is unchanged.
 ///
-/// Takes the comments out of the text and of the result, once each, and reads both new texts without comments
-/// once, beside what [`rename_in_text`] reads. Also finds the value, as
-/// [`locate_in_text`](jsonptr_edit_in_text::locate_in_text) does.
+/// Takes the comments out of the result once, and reads both new texts without comments once, beside what
+/// [`take_step`] reads. Also finds the value, as [`locate`](jsonptr_edit_in_text::locate) does.
 ///
 /// # Errors
 ///
-/// - [`WithCommentsError::Comment`] if a block comment is not closed.
-/// - [`WithCommentsError::NotJson`] if `serde_json` does not read the text without comments.
-/// - [`WithCommentsError::Refused`] with [`RenameError::NotThere`] if the pointer resolves to nothing,
-///   [`RenameError::NotAMember`] if it resolves to the root or to an element of an array, and
-///   [`RenameError::KeyTaken`] if another member of the object has the key.
-/// - [`WithCommentsError::NotInPlace`] if the member can get the key, but not where it is, as where the object
-///   has several members with the old key.
-/// - [`WithCommentsError::Memory`] if an allocation fails. It is never [`WithCommentsError::TooDeep`].
+/// [`AllocError`] if an allocation fails.
 ///
 /// # Examples
 ///
 /// ```rust
-/// let text = "{\n  \"size\" /* px */: 3, // of the box\n  \"name\": \"app\",\n}\n";
 /// let mut buffers = Buffers::new(alloc);
+/// let text = "{\n  \"size\" /* px */: 3, // of the box\n  \"name\": \"app\",\n}\n";
+/// let read = CommentedText::read(alloc, text)?;
 /// let path = Pointer::parse("/size")?;
-/// let new = rename_with_comments(alloc, &mut buffers, text, path, "width")?;
+/// let new = rename_with_comments(&mut buffers, &read, path, "width")?;
 /// let want = "{\n  \"width\" /* px */: 3, // of the box\n  \"name\": \"app\",\n}\n";
-/// assert_eq!(rt; new.as_str(), want);
-/// let taken = rename_with_comments(alloc, &mut buffers, text, path, "name");
-/// assert!(rt; matches!(taken, Err(WithCommentsError::Refused(RenameError::KeyTaken))));
+/// assert_eq!(rt; new.ok_or("an edit in place")?.as_str(), want);
+/// assert!(rt; rename_with_comments(&mut buffers, &read, path, "name")?.is_none());
 /// ```
 pub fn rename_with_comments(
-    alloc: Global,
     buffers: &mut Buffers,
-    text: &str,
+    text: &CommentedText<'_>,
     pointer: Pointer<'_>,
     key: &str,
-) -> Result<String, WithCommentsError<RenameError>>
-    ensures renamed { IfOk result (λ s. Becomes
-        (λ old new. RenamesInText old (tokens pointer.entry) key.now new) text.now (string_bytes s)) }
-    ensures bytes { IfOk result (λ s. EditsAs
-        (λ old new. RenamesBytes old (tokens pointer.entry) key.now new) text.now (string_bytes s)) }
-    ensures pieces { IfOk result (λ s. (string_bytes s ≡ text.now)
-        ⊎ IsRenaming text.now (tokens pointer.entry) (string_bytes s)) }
-    ensures refused { IfErr result (IsWithCommentsError
-        (λ old new. RenamesInText old (tokens pointer.entry) key.now new)
-        (λ old e. IsRenameError old (tokens pointer.entry) key.now e) text.now) }
+) -> Result<Option<String>, AllocError>
+    ensures renamed { IfOk result (λ o. IfSome o (λ s. Becomes
+        (λ old new. RenamesInText old (tokens pointer.entry) key.now new) text.now.text.now (string_bytes s))) }
+    ensures bytes { IfOk result (λ o. IfSome o (λ s. EditsAs
+        (λ old new. RenamesBytes old (tokens pointer.entry) key.now new) text.now.text.now (string_bytes s))) }
+    ensures pieces { IfOk result (λ o. IfSome o (λ s. (string_bytes s ≡ text.now.text.now)
+        ⊎ IsRenaming text.now.text.now (tokens pointer.entry) (string_bytes s))) }
 {
-    let read = read_past(alloc, text)?;
+    has_bare(text);
     let texts = Texts {
-        text,
-        bare: read.bare.as_str(),
+        text: text.text,
+        bare: text.bare.as_str(),
     };
-    if let Some(new) = renamed(buffers, texts, pointer, key)? {
-        return Ok(new);
-    }
-    match rename_in_text(alloc, buffers, texts.bare, pointer, key) {
-        Ok(_edited) => Err(WithCommentsError::NotInPlace),
-        Err(error) => Err(WithCommentsError::from(InPlaceError::Edit(error))),
-    }
+    renamed(buffers, texts, pointer, key)
 }
 
 /// Gives the member the key: in the text without comments, and then in the text with them. Returns `None` if one

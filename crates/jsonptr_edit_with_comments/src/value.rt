@@ -9,7 +9,7 @@ use crate::draft::{Draft, has_new_run};
 use crate::part::{Part, is_run};
 use jsonptr::Pointer;
 use jsonptr_comments::piece::Allowed;
-use jsonptr_edit_in_text::{LocateError, Located, locate_in_text_with};
+use jsonptr_edit_in_text::{LocateError, Located, locate};
 use jsonptr_json_edits::buffers::Buffers;
 use jsonptr_json_edits::locate::Span;
 use std::alloc::AllocError;
@@ -78,8 +78,7 @@ pub fn find_value<'t>(
     ensures { IfOk result (λ found. IfSome found (λ l. IsLocated text.entry.now (tokens pointer.entry)
         l.before.now l.value.now l.after.now)) }
 {
-    let alloc = buffers.alloc;
-    match locate_in_text_with(alloc, buffers, text, pointer) {
+    match locate(buffers, text, pointer) {
         Ok(located) => Ok(Some(located)),
         Err(LocateError::Memory(error)) => Err(error),
         Err(_error) => Ok(None),

@@ -2,7 +2,7 @@ use Rattle.std.proofs.Common.{Option, IfSome, Bor, subst, arith}
 use Rattle.jsonptr.specs.Text.{Text}
 use Rattle.jsonptr.specs.Pointer.{tokens}
 use Rattle.jsonptr_edit_in_text.specs.Locating.{IsLocated}
-use Rattle.jsonptr_edit_in_text.specs.declared.locate.Located.{Located}
+use Rattle.jsonptr_edit_in_text.specs.declared.find.Located.{Located}
 use Rattle.jsonptr_edit_with_comments.specs.PrivateChecking.{IsExactChild}
 use Rattle.jsonptr_edit_with_comments.proofs.CheckLemmas.{child_at}
 use Rattle.jsonptr_edit_with_comments.proofs.child.is_child_at.Goals as goal

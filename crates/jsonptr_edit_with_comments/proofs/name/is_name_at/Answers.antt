@@ -4,7 +4,7 @@ use Rattle.jsonptr.specs.Text.{Text}
 use Rattle.jsonptr.specs.Pointer.{tokens}
 use Rattle.jsonptr_json_edits.specs.Child.{IsValueText}
 use Rattle.jsonptr_edit_in_text.specs.Locating.{IsLocated}
-use Rattle.jsonptr_edit_in_text.specs.declared.locate.Located.{Located}
+use Rattle.jsonptr_edit_in_text.specs.declared.find.Located.{Located}
 use Rattle.jsonptr_edit_with_comments.proofs.CheckLemmas.{if_so, name_at}
 use Rattle.jsonptr_edit_with_comments.proofs.name.is_name_at.Goals as goal
 
