@@ -1,6 +1,6 @@
 //! Editing a text with comments.
 ghost use Rattle.std.specs.Prelude.{IfOk, IfErr};
-ghost use Rattle.jsonptr_edit_in_text.specs.InPlace.{StaysOneLine};
+ghost use Rattle.jsonptr_edit_in_text.specs.OneLine.{StaysOneLine};
 ghost use Rattle.jsonptr_edit_with_comments.specs.EditWithComments.{Becomes};
 ghost use Rattle.jsonptr_text_edit.specs.Edited.{text_of, IfInPlace};
 ghost use Rattle.jsonptr_text_edit.specs.Edits.{EditsText};
@@ -20,7 +20,7 @@ use jsonptr_text_edit::{Buffers, Edit, EditError, Edited};
 /// | a child is added | all stay; those on the line of the child before it stay on its line |
 /// | a child is removed | those inside it go, and those after it on its line, also after its comma |
 /// | a value is moved | all stay: a value with a comment in it, or beside it on its line, is not moved |
-/// | a member gets another key | all stay |
+/// | a member is renamed | all stay |
 ///
 /// If the edit is possible, but not in place, the document is printed anew, without comments:
 /// [`Edited::Reprinted`].

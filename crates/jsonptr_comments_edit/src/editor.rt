@@ -1,8 +1,9 @@
 //! A text that is edited many times.
-ghost use Rattle.std.specs.Prelude.{◌≡◌, IfOk, IfErr, IfSome, MatchOption, OnErr, IsTrue, string_bytes};
+ghost use Rattle.std.specs.Prelude.{◌≡◌, IfOk, IfErr, IfSome, MatchOption, OnErr, IsTrue, string_bytes, ⊤};
 ghost use Rattle.std.proofs.Props.{props};
+ghost use Rattle.jsonptr.specs.Text.{Text};
 ghost use Rattle.jsonptr_comments.specs.Faults.{IsCommentFault};
-ghost use Rattle.jsonptr_edit_in_text.specs.InPlace.{StaysOneLine};
+ghost use Rattle.jsonptr_edit_in_text.specs.OneLine.{StaysOneLine};
 ghost use Rattle.jsonptr_edit_with_comments.specs.EditWithComments.{Becomes};
 ghost use Rattle.jsonptr_text_edit.specs.Edited.{text_of, IfInPlace};
 ghost use Rattle.jsonptr_text_edit.specs.Edits.{EditsText};
@@ -87,6 +88,8 @@ impl TextEditor {
             CommentedBytes (string_bytes self.old.text) edit.now (string_bytes self.new.text))) }
         ensures one_line { IfOk result (λ o. IfSome o (λ _.
             StaysOneLine (string_bytes self.old.text) (string_bytes self.new.text))) }
+        ensures possible { IfOk result (λ o. MatchOption o ((new : Text) × Becomes
+            (λ old new. EditsText old edit.now new) (string_bytes self.old.text) new) (λ _. ⊤)) }
         ensures before { IfOk result (λ o.
             MatchOption o (self.new.text ≡ self.old.text) (λ before. before ≡ self.old.text)) }
         ensures unchanged { OnErr result (self.new.text ≡ self.old.text) }
