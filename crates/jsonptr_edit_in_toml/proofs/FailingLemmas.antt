@@ -43,18 +43,18 @@ no_text text ms p q =
     let wrong : ⊥ = cc in
     wrong
 
-not_toml_read : (text : Text) (d : Data) → parse_document text ≡ None → ReadsAsToml text d → ⊥
+pub not_toml_read : (text : Text) (d : Data) → parse_document text ≡ None → ReadsAsToml text d → ⊥
 not_toml_read text d none reads = no_text text reads.0 none reads.1
 
-not_toml_deep : (text : Text) → parse_document text ≡ None → IsDeep text → ⊥
+pub not_toml_deep : (text : Text) → parse_document text ≡ None → IsDeep text → ⊥
 not_toml_deep text none deep = no_text text deep.0 none deep.1
 
-deep_read : (text : Text) (d : Data) → IsDeep text → ReadsAsToml text d → ⊥
+pub deep_read : (text : Text) (d : Data) → IsDeep text → ReadsAsToml text d → ⊥
 deep_read text d deep reads =
     let same : members_depth deep.0 ≡ members_depth reads.0 = ap members_depth (one_read text deep.0 reads.0 deep.1 reads.1) in
     absurd (omega (arith, same, deep.2, reads.3))
 
-same_document : (text : Text) (d e : Data) → ReadsAsToml text d → ReadsAsToml text e → d ≡ e
+pub same_document : (text : Text) (d e : Data) → ReadsAsToml text d → ReadsAsToml text e → d ≡ e
 same_document text d e r s = r.2 ∙ ap table (one_read text r.0 s.0 r.1 s.1) ∙ sym s.2
 
 swap : (e f : EditTomlError Error) → AreOneError e f → AreOneError f e

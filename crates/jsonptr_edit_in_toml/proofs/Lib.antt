@@ -8,3 +8,5 @@ pub mod MadeLemmas
 pub mod GivingLemmas
 pub mod NameLemmas
 pub mod RenamingLemmas
+pub mod OutcomeLemmas
+pub mod EditLemmas

@@ -1,4 +1,4 @@
--- A member of a table that gets another key: it is deleted, and assigned under that key.
+-- A member of a table that is renamed: it is deleted, and assigned under the new key.
 use Rattle.std.proofs.Common.{◌≡◌, ◌⊎◌, inl, inr, List, [], ◌∷◌, ◌++◌, Bool, IsTrue, ◌↔◌, Option, Some, None, IsSome, option_map, true≢false, refl, sym, ap, ◌∙◌, subst}
 use Rattle.toml.specs.Data.{Data}
 use Rattle.jsonptr.specs.Text.{Text}
@@ -33,7 +33,7 @@ use Rattle.jsonptr_edit_in_text.specs.declared.edited.Edited.TheVariants.{InPlac
 use Rattle.jsonptr_edit_in_text.proofs.RenamingLemmas.{member_named, left_object, not_below}
 use Rattle.jsonptr_edit_in_toml.specs.EditInToml.{IsPrinted}
 use Rattle.jsonptr_edit_in_toml.specs.PrivateRenaming.{IsTargetError}
-use Rattle.jsonptr_edit_in_toml.specs.Renaming.{RenamesTo, RenamesAndPrintsToml, IsRenameInTomlError}
+use Rattle.jsonptr_edit_in_toml.specs.Renaming.{RenamesTo, RenamesInOrder, RenamesAndPrintsToml, IsRenameInTomlError}
 
 -- what the law of assigning says
 abbrev NotBoth : Type 0
@@ -139,7 +139,7 @@ untargeted text ts k d TooDeep reads h = absurd h
 untargeted text ts k d NoText reads h = absurd h
 untargeted text ts k d (Memory f) reads h = tt
 
-pub unprinted_after_rename : (text : Text) (ts : List Text) (k : Text) (d2 : Data) (e : PrintTomlError) → RenamesTo text ts k d2 → IsPrintTomlError d2 e → IsRenameInTomlError text ts k (edit_toml_of_print e)
+pub unprinted_after_rename : (text : Text) (ts : List Text) (k : Text) (d2 : Data) (e : PrintTomlError) → RenamesInOrder text ts k d2 → IsPrintTomlError d2 e → IsRenameInTomlError text ts k (edit_toml_of_print e)
 unprinted_after_rename text ts k d2 printing.TooDeep made h = (d2, made, h)
 unprinted_after_rename text ts k d2 printing.NoText made h = (d2, made, h)
 unprinted_after_rename text ts k d2 (printing.Memory f) made h = tt

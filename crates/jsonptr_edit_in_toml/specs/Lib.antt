@@ -6,3 +6,6 @@ pub mod Giving
 pub mod PrivateRenaming
 pub mod RawValue
 pub mod Renaming
+pub mod TomlEditErrors
+pub mod TomlEdits
+pub mod TomlOutcomes

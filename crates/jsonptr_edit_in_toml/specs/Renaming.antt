@@ -1,11 +1,11 @@
--- A member of a table that gets another key, in the text of the document.
+-- A member of a table that is renamed, in the text of the document.
 use Rattle.std.specs.Prelude.{◌≡◌, ◌-◌, ◌||◌, ◌==◌, ℕ, zero, suc, Bool, false, List, [], ◌∷◌, ◌++◌, length, slice_index, Some, None, ⊤}
 use Rattle.toml_parser.specs.Lexical.{first, quote, apostrophe, is_ws, is_bare}
 use Rattle.toml_parser.specs.Strings.{key}
 use Rattle.toml.specs.Data.{Data}
 use Rattle.toml.specs.Parse.{parse_document}
 use Rattle.jsonptr.specs.Text.{Text}
-use Rattle.jsonptr.specs.TomlValue.{nodes}
+use Rattle.jsonptr.specs.TomlValue.{nodes, HasSortedKeys}
 use Rattle.jsonptr_in_toml.specs.InToml.{ReadsAsToml, IsDeep, IsPrintTomlError, PrintsAs}
 use Rattle.jsonptr_in_toml.specs.declared.error.PrintTomlError.TheVariants as printing
 use Rattle.jsonptr_in_toml.specs.declared.error.EditTomlError.{EditTomlError}
@@ -18,6 +18,10 @@ use Rattle.jsonptr_edit_in_text.specs.declared.rename.RenameError.{RenameError}
 -- table has the key `k`
 abbrev pub RenamesTo : Text → List Text → Text → Data → Type 0
 RenamesTo text ts k d2 = (d : Data) × ReadsAsToml text d × Renames (nodes d) ts k (nodes d2)
+
+-- `RenamesInOrder text ts k d2`: renaming the member at the tokens turns the document of `text` into `d2`, whose keys are sorted
+abbrev pub RenamesInOrder : Text → List Text → Text → Data → Type 0
+RenamesInOrder text ts k d2 = RenamesTo text ts k d2 × HasSortedKeys d2
 
 -- `RenamesInToml old ts k new`: the texts read as documents, and renaming the member at the tokens turns the first into the
 -- second
@@ -60,8 +64,9 @@ abbrev pub RenamesKeys : ℕ → Text → Text → Text → Text → Type 0
 RenamesKeys zero x k old new = new ≡ old
 RenamesKeys (suc n) x k old new = (mid : Text) × RenamesKeys n x k old mid × RenamesKey x k mid new
 
--- `RenamesTomlBytes old ts k new`: only texts of the last token as a key change, and become texts of the key `k`, and nothing if
--- the two are equal. So all values, comments, white space and line breaks stay
+-- `RenamesTomlBytes old ts k new`: texts of the last token as a key, any number of them, become texts of the key `k`, and
+-- nothing else changes. If the two keys are equal, nothing changes. Where the texts are is not said: a word in a comment could
+-- be one
 abbrev pub RenamesTomlBytes : Text → List Text → Text → Text → Type 0
 RenamesTomlBytes old ts k new =
     (front : List Text) × (x : Text) × (ts ≡ front ++ x ∷ []) × (k ≡ x → new ≡ old)
@@ -72,6 +77,6 @@ abbrev pub IsRenameInTomlError : Text → List Text → Text → EditTomlError R
 IsRenameInTomlError text ts k NotToml = parse_document text ≡ None
 IsRenameInTomlError text ts k DocumentTooDeep = IsDeep text
 IsRenameInTomlError text ts k (Refused f) = (d : Data) × ReadsAsToml text d × RefusesRename (nodes d) ts k f
-IsRenameInTomlError text ts k TooDeep = (d2 : Data) × RenamesTo text ts k d2 × IsPrintTomlError d2 printing.TooDeep
-IsRenameInTomlError text ts k NoText = (d2 : Data) × RenamesTo text ts k d2 × IsPrintTomlError d2 printing.NoText
+IsRenameInTomlError text ts k TooDeep = (d2 : Data) × RenamesInOrder text ts k d2 × IsPrintTomlError d2 printing.TooDeep
+IsRenameInTomlError text ts k NoText = (d2 : Data) × RenamesInOrder text ts k d2 × IsPrintTomlError d2 printing.NoText
 IsRenameInTomlError text ts k (Memory f) = ⊤

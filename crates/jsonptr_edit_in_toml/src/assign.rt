@@ -30,56 +30,33 @@ use toml::Value;
 use toml_parser::bytes::is_word;
 use toml_parser::text::{byte_at, first};
 
-/// Assigns the value at the pointer in the document that the text contains, as
-/// [`Assign::assign`](jsonptr::assign::Assign) does.
-///
-/// One piece of the text changes: the text of the value is replaced, or the headers and dotted keys that
-/// make it, or a member or an element is put in as its siblings are. All other bytes stay. If that is not
-/// possible, the document is printed anew.
-///
-/// Reads the old and the new text once each, scans the old one once more, and allocates for both
-/// documents.
+/// Assigns the value, which has no text of its own, at the pointer in the document that the text contains.
 ///
 /// # Errors
 ///
-/// - [`EditTomlError::NotToml`] if the text is not TOML.
-/// - [`EditTomlError::DocumentTooDeep`] if the values of the document nest deeper than 80.
-/// - [`EditTomlError::TooDeep`] if the pointer has more than 81 tokens.
-/// - [`EditTomlError::Refused`] if no value can be assigned at the pointer.
-/// - [`EditTomlError::TooDeep`] if the values of the new document nest deeper than 80.
-/// - [`EditTomlError::NoText`] if the new document is not a table, or has a date-time that TOML has no
-///   text for.
-/// - [`EditTomlError::Memory`] if an allocation fails.
-///
-/// # Examples
-///
-/// ```rust
-/// let text = "[server]\nport = 80 # as ever\n";
-/// let port = Pointer::parse("/server/port")?;
-/// let edited = assign_in_toml(alloc, text, port, 8080.into())?;
-/// assert_eq!(rt; edited.as_str(), "[server]\nport = 8080 # as ever\n");
-/// ```
-pub fn assign_in_toml(
+/// Those of [`edit_toml`](crate::edit_toml) for an assignment.
+pub fn assign_value_in_toml(
     alloc: Global,
     text: &str,
     pointer: Pointer<'_>,
-    value: Value,
+    value: &Value,
 ) -> Result<Edited, EditTomlError<assign::Error>>
-    ensures assigned { IfOk result (λ e. AssignsInToml text.now (tokens pointer.entry) (view value)
-        (edited_text e)) }
+    ensures assigned { IfOk result (λ e. AssignsInToml text.now (tokens pointer.entry)
+        (view value.now) (edited_text e)) }
     ensures bytes { IfOk result (KeepsBytes
-        (AssignsTomlBytes text.now (tokens pointer.entry) (view value))) }
+        (AssignsTomlBytes text.now (tokens pointer.entry) (view value.now))) }
     ensures printed { IfOk result (IsPrinted
-        (AssignsAndPrintsToml text.now (tokens pointer.entry) (view value))) }
+        (AssignsAndPrintsToml text.now (tokens pointer.entry) (view value.now))) }
     ensures refused { IfErr result
-        (IsAssignInTomlError text.now (tokens pointer.entry) (view value)) }
+        (IsAssignInTomlError text.now (tokens pointer.entry) (view value.now)) }
 {
     let mut document = read_toml(alloc, text)?;
     if has_too_many_tokens(pointer) {
         return Err(EditTomlError::TooDeep);
     }
-    let candidate = candidate_of(alloc, text, &document, pointer, &value)?;
-    match document.assign(alloc, pointer, value) {
+    let candidate = candidate_of(alloc, text, &document, pointer, value)?;
+    let copy = value.clone()?;
+    match document.assign(alloc, pointer, copy) {
         Ok(_) => Ok(choose(alloc, candidate, document)?),
         Err(Fault::Refused(error)) => Err(EditTomlError::Refused(error)),
         Err(Fault::Memory(error)) => Err(EditTomlError::Memory(error)),

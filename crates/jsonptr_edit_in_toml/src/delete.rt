@@ -25,36 +25,12 @@ use std::alloc::{AllocError, Global};
 use std::convert::Infallible;
 use toml::Value;
 
-/// Deletes the value that the pointer resolves to in the document that the text contains, as
-/// [`Delete::delete`](jsonptr::delete::Delete) does. Returns `None` if it resolves to nothing. Deleting
-/// the root leaves an empty document.
-///
-/// A key goes with its line and the comment on it, and with one above it if no key follows. A table goes
-/// with its header, its lines and the comment above it, and an element with its comma or its line. All
-/// other bytes stay. If that is not possible, the document is printed anew.
-///
-/// The clause states which comments go with a key, a member of an inline table or an element. Which go
-/// with a table that has headers is tested.
-///
-/// Reads the old and the new text once each, scans the old one once more, and allocates for both
-/// documents.
+/// Deletes the value that the pointer resolves to in the document that the text contains. Returns `None` if
+/// it resolves to nothing.
 ///
 /// # Errors
 ///
-/// - [`EditTomlError::NotToml`] if the text is not TOML.
-/// - [`EditTomlError::DocumentTooDeep`] if the values of the document nest deeper than 80.
-/// - [`EditTomlError::Memory`] if an allocation fails.
-///
-/// The clause also allows [`EditTomlError::TooDeep`] and [`EditTomlError::NoText`], as for
-/// [`assign_in_toml`](crate::assign_in_toml). No document is known that has them.
-///
-/// # Examples
-///
-/// ```rust
-/// let text = "# The server\nport = 80 # as ever\nname = 'a'\n";
-/// let edited = delete_in_toml(alloc, text, Pointer::parse("/port")?)?;
-/// assert_eq!(rt; edited.ok_or("a value")?.as_str(), "# The server\nname = 'a'\n");
-/// ```
+/// Those of [`edit_toml`](crate::edit_toml) for a deletion, except that nothing is there.
 pub fn delete_in_toml(
     alloc: Global,
     text: &str,

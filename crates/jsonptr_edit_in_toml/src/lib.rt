@@ -1,20 +1,23 @@
-//! Edits a TOML document in its text, in place.
+//! Edits of a TOML document in its text: one edit, one result.
 //!
 //! ```rust
 //! let text = "# The size\nsize = 3 # as ever\n";
-//! let edited = assign_in_toml(alloc, text, Pointer::parse("/size")?, 5.into())?;
-//! assert_eq!(rt; edited.as_str(), "# The size\nsize = 5 # as ever\n");
+//! let edit = TomlEdit::Assign(Pointer::parse("/size")?, RawTomlValue::parse(alloc, "0x05")?);
+//! let new = edit_toml(alloc, text, &edit)?.in_place().ok_or("an edit in place")?;
+//! assert_eq!(rt; new.as_str(), "# The size\nsize = 0x05 # as ever\n");
 //! ```
 //!
-//! - [`assign_in_toml`] and [`delete_in_toml`] edit at a pointer, as `assign` and `delete` do.
-//!   A document that cannot be edited in place is printed anew.
-//! - [`assign_raw_in_toml`] assigns the text of a value, as it is written.
-//! - [`rename_in_toml`] gives a member of a table another key.
-//! - Those that end in `_in_place` do the same, in place or not at all.
+//! - [`TomlEdit`] is what to do: assign a value with its own text or one that has none, delete a value, or
+//!   rename a member of a table.
+//! - [`edit_toml`] makes the edit in a text. One [`TomlEdit`] serves many texts.
+//! - [`Edited`] is the new text. [`Edited::in_place`] returns it only if the comments and the layout of the
+//!   old text stay.
+//! - [`TomlEditError`] is why an edit is not possible.
+//! - [`laws`] states that an edit of a text has at most one error.
 //!
-//! Each call makes two promises. *Meaning*: the new text reads as the document that the call on
+//! [`edit_toml`] makes two promises. *Meaning*: the new text reads as the document that the call on
 //! documents makes of the document that the old text reads as. *Bytes*, in place: one piece of the text
-//! changes, or of a rename each text of the key.
+//! changes, or of a renaming texts of the key.
 //!
 //! - A value that has a text, as after an equals sign, is replaced by a text: all else stays, also the
 //!   comments beside it.
@@ -24,8 +27,9 @@
 //!   before that comma, on its line, and, if no key follows, directly above. Which comments go with a
 //!   table that has headers is tested.
 //! - What is put in is one member or element, with at most one comma.
-//! - A raw value has its own text, byte for byte, or headers and dotted keys make it.
-//! - A key that is renamed becomes the new one, wherever it names the member, and nothing else changes.
+//! - A value that comes with its text has that text, byte for byte, or headers and dotted keys make it.
+//! - A text of a key that is renamed becomes one of the new key, and nothing else changes. That these are
+//!   the texts that name the member is tested.
 //!
 //! In the examples `rt` is the runtime that `main` and each test receive, and `alloc` is
 //! `rt.alloc()`, the allocator.
@@ -34,19 +38,21 @@
 mod add;
 mod alone;
 mod assign;
-mod assign_raw;
+mod assign_given;
 mod check;
 mod cut_out;
 mod delete;
+mod edit;
+mod edit_error;
 mod given;
 mod given_plan;
-mod in_place;
 mod inline;
 mod inline_child;
 mod items;
 mod keys;
 pub mod laws;
 mod lines;
+mod made;
 mod mention;
 mod open;
 mod outline;
@@ -62,11 +68,11 @@ mod run;
 mod same;
 mod skip;
 mod span;
+mod text;
 
-pub use assign::assign_in_toml;
-pub use assign_raw::{assign_raw_in_toml, assign_raw_in_toml_in_place};
-pub use delete::delete_in_toml;
-pub use in_place::{assign_in_toml_in_place, delete_in_toml_in_place};
-pub use jsonptr_edit_in_text::{Edited, InPlaceError, RenameError};
+pub use edit::TomlEdit;
+pub use edit_error::TomlEditError;
+pub use jsonptr_edit_in_text::RenameError;
+pub use jsonptr_text_edit::Edited;
 pub use raw_value::{RawTomlError, RawTomlValue};
-pub use rename::{rename_in_toml, rename_in_toml_in_place};
+pub use text::edit_toml;

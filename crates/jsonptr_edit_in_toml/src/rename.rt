@@ -1,9 +1,8 @@
-//! Giving a member of a table another key in a text.
+//! Renaming a member of a table in a text.
 ghost use Rattle.std.specs.Prelude.{◌≡◌, ℕ, IsTrue, IfOk, IfErr, IfSome, string_bytes};
 ghost use Rattle.jsonptr.specs.Pointer.{tokens};
 ghost use Rattle.jsonptr_edit_in_text.specs.Bytes.{KeepsBytes};
 ghost use Rattle.jsonptr_edit_in_text.specs.EditInText.{edited_text};
-ghost use Rattle.jsonptr_edit_in_text.specs.InPlace.{IsInPlaceError};
 ghost use Rattle.jsonptr_edit_in_toml.specs.EditInToml.{IsPrinted};
 ghost use Rattle.jsonptr_edit_in_toml.specs.Renaming as words;
 ghost use Rattle.jsonptr_edit_in_toml.specs.Renaming.{RenamesInToml, RenamesAndPrintsToml, RenamesTomlBytes, RenamesKey, RenamesKeys, IsKeyText, EndsInNoSpace, IsBetweenKeys, IsRenameInTomlError};
@@ -13,7 +12,7 @@ use crate::keys::key_text;
 use crate::mention::mentions_of;
 use crate::rename_document::{is_same_text, renamed_document};
 use jsonptr::Pointer;
-use jsonptr_edit_in_text::{Edited, InPlaceError, RenameError};
+use jsonptr_edit_in_text::{Edited, RenameError};
 use jsonptr_in_toml::EditTomlError;
 use jsonptr_json_edits::cut::{Cut, cut_at, splice};
 use jsonptr_json_edits::locate::Span;
@@ -22,38 +21,11 @@ use toml_parser::bytes::{is_bare, is_ws};
 use toml_parser::text::{byte_at, first};
 use toml_parser::{ParseError, dotted_key};
 
-/// Gives the member of a table that the pointer resolves to another key, in the document that the text
-/// contains.
-///
-/// Only its key changes, in each header and each dotted key that names it: `[a.b]` and `[a.c]` both name
-/// `a`. All other bytes stay, and so do its value, its place among the others and all comments. The new
-/// key is bare if it can be, and quoted if not. It is not escaped as in a pointer. If the member has the
-/// key already, the text is unchanged. If an edit in place is not possible, the document is printed anew.
-///
-/// Reads the old and the new text once each, and scans the old one once more.
+/// Renames the member of a table that the pointer resolves to, in the document that the text contains.
 ///
 /// # Errors
 ///
-/// - [`EditTomlError::NotToml`] if the text is not TOML.
-/// - [`EditTomlError::DocumentTooDeep`] if the values of the document nest deeper than 80.
-/// - [`EditTomlError::Refused`] with [`RenameError::NotThere`] if the pointer resolves to nothing,
-///   [`RenameError::NotAMember`] if it resolves to the root or to an element of an array, and
-///   [`RenameError::KeyTaken`] if another member of the table has the key.
-/// - [`EditTomlError::Memory`] if an allocation fails.
-///
-/// The clause also allows [`EditTomlError::TooDeep`] and [`EditTomlError::NoText`], as for
-/// [`assign_in_toml`](crate::assign_in_toml). No document is known that has them.
-///
-/// # Examples
-///
-/// ```rust
-/// let text = "[server] # ours\nport = 80\n\n[server.tls]\non = true\n";
-/// let edited = rename_in_toml(alloc, text, Pointer::parse("/server")?, "web host")?;
-/// let want = "[\"web host\"] # ours\nport = 80\n\n[\"web host\".tls]\non = true\n";
-/// assert_eq!(rt; edited.as_str(), want);
-/// let taken = rename_in_toml(alloc, text, Pointer::parse("/server/port")?, "tls");
-/// assert!(rt; matches!(taken, Err(EditTomlError::Refused(RenameError::KeyTaken))));
-/// ```
+/// Those of [`edit_toml`](crate::edit_toml) for a renaming.
 pub fn rename_in_toml(
     alloc: Global,
     text: &str,
@@ -71,41 +43,6 @@ pub fn rename_in_toml(
     let document = renamed_document(alloc, text, pointer, key)?;
     let candidate = candidate_of(alloc, text, pointer, key)?;
     Ok(choose(alloc, candidate, document)?)
-}
-
-/// Renames as [`rename_in_toml`] does, and never prints the document anew.
-///
-/// # Errors
-///
-/// [`InPlaceError::NotInPlace`] where [`rename_in_toml`] prints the document anew, and
-/// [`InPlaceError::Edit`] with its error.
-///
-/// # Examples
-///
-/// ```rust
-/// let text = "port = 80 # as ever\n";
-/// let new = rename_in_toml_in_place(alloc, text, Pointer::parse("/port")?, "http")?;
-/// assert_eq!(rt; new.as_str(), "http = 80 # as ever\n");
-/// ```
-pub fn rename_in_toml_in_place(
-    alloc: Global,
-    text: &str,
-    pointer: Pointer<'_>,
-    key: &str,
-) -> Result<String, InPlaceError<EditTomlError<RenameError>>>
-    ensures renamed { IfOk result
-        (λ s. RenamesInToml text.now (tokens pointer.entry) key.now (string_bytes s)) }
-    ensures bytes { IfOk result
-        (λ s. RenamesTomlBytes text.now (tokens pointer.entry) key.now (string_bytes s)) }
-    ensures refused { IfErr result (IsInPlaceError
-        (RenamesInToml text.now (tokens pointer.entry) key.now)
-        (IsRenameInTomlError text.now (tokens pointer.entry) key.now)) }
-{
-    match rename_in_toml(alloc, text, pointer, key) {
-        Ok(Edited::InPlace(new)) => Ok(new),
-        Ok(Edited::Rewritten(_new)) => Err(InPlaceError::NotInPlace),
-        Err(error) => Err(InPlaceError::Edit(error)),
-    }
 }
 
 /// Returns the text with the key replaced wherever it names the member.

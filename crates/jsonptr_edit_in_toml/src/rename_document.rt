@@ -1,8 +1,8 @@
-//! Giving a member of a table another key in a document.
+//! Renaming a member of a table in a document.
 ghost use Rattle.std.specs.Prelude.{◌≡◌, ◌↔◌, IfOk, IfErr, IsTrue, MatchOption};
 ghost use Rattle.toml.specs.View.{view};
 ghost use Rattle.jsonptr.specs.Content.{label_of};
-ghost use Rattle.jsonptr.specs.TomlValue.{content, nodes};
+ghost use Rattle.jsonptr.specs.TomlValue.{content, nodes, HasSortedKeys};
 ghost use Rattle.jsonptr.specs.Node.{an_object};
 ghost use Rattle.jsonptr.specs.Pointer.{tokens};
 ghost use Rattle.jsonptr_edit_in_text.specs.PrivateRenaming.{IsThere, IsObjectAt, IsMemberOf, IsTarget};
@@ -19,11 +19,11 @@ use std::alloc::{AllocError, Global};
 use std::borrow::CowStr;
 use toml::Value;
 
-/// Reads the text, and gives the member that the pointer resolves to another key.
+/// Reads the text, and renames the member that the pointer resolves to.
 ///
 /// # Errors
 ///
-/// Those of [`rename_in_toml`](crate::rename_in_toml), except for those of the new document.
+/// Those of [`edit_toml`](crate::edit_toml) for a renaming, except for those of the new document.
 pub fn renamed_document(
     alloc: Global,
     text: &str,
@@ -32,6 +32,7 @@ pub fn renamed_document(
 ) -> Result<Value, EditTomlError<RenameError>>
     ensures renamed { IfOk result
         (λ v. RenamesTo text.now (tokens pointer.entry) key.now (view v)) }
+    ensures sorted { IfOk result (λ v. HasSortedKeys (view v)) }
     ensures refused { IfErr result (IsRenameInTomlError text.now (tokens pointer.entry) key.now) }
 {
     let mut document = read_toml(alloc, text)?;

@@ -1,5 +1,11 @@
+use Rattle.jsonptr_patch.specs.declared.comparison.Comparison.TheVariants.{Numeric}
 use Rattle.jsonptr_edit_in_toml.proofs.FailingLemmas.{one_assign_error, one_delete_error, lacking_error, lacking_or_deleted}
+use Rattle.jsonptr_edit_in_toml.proofs.OutcomeLemmas.{toml_edit_error_one}
 use Rattle.jsonptr_edit_in_toml.proofs.laws.one_error_law.Goals as goal
+
+pub returns-clause-edit : goal.returns-clause-edit
+returns-clause-edit c =
+    toml_edit_error_one c.assign_law.ensures.not_both c.assign_law.ensures.one_made c.assign_law.ensures.one (c.comparing_operation_law.ensures.one_map Numeric)
 
 pub returns-clause-assign : goal.returns-clause-assign
 returns-clause-assign c = one_assign_error c.assign_law.ensures.not_both c.assign_law.ensures.one_made c.assign_law.ensures.one

@@ -9,7 +9,7 @@ use Rattle.jsonptr_edit_in_toml.proofs.rename.rename_in_toml.Goals as goal
 pub returns-in_err-choose-clause-refused : goal.returns-in_err-choose-clause-refused
 returns-in_err-choose-clause-refused c =
     let p = err_from_is_err_and c.from_residual-in_err-choose.result c.from_residual-in_err-choose.ensures.1 in
-    rw (p.1, p.2) (unprinted_after_rename c.args.text.now (tokens c.args.pointer) c.args.key.now (view c.in_ok-document.document) _ c.in_ok-document.ensures.renamed c.in_err-choose.ensures.refused)
+    rw (p.1, p.2) (unprinted_after_rename c.args.text.now (tokens c.args.pointer) c.args.key.now (view c.in_ok-document.document) _ (c.in_ok-document.ensures.renamed, c.in_ok-document.ensures.sorted) c.in_err-choose.ensures.refused)
 
 pub returns-clause-bytes : goal.returns-clause-bytes
 returns-clause-bytes c =

@@ -2,11 +2,12 @@ use Rattle.std.proofs.Common.{List, sym, subst}
 use Rattle.std.proofs.lemmas.Result.{err_from_is_err_and}
 use Rattle.toml.specs.Data.{table, no_members}
 use Rattle.toml.specs.View.{view}
-use Rattle.jsonptr.specs.TomlValue.{nodes, FindsValue}
+use Rattle.jsonptr.specs.TomlValue.{nodes, FindsValue, HasSortedKeys}
 use Rattle.jsonptr.specs.Pointer.{tokens}
 use Rattle.jsonptr.specs.Text.{Text}
-use Rattle.jsonptr.proofs.TomlCalling.{FindsValue-Finds}
+use Rattle.jsonptr.proofs.TomlCalling.{FindsValue-Finds, ascends_part}
 use Rattle.jsonptr_edit_in_text.specs.PrivateRenaming.{IsTarget}
+use Rattle.jsonptr_edit_in_toml.proofs.ChangingLemmas.{reads_in_order}
 use Rattle.jsonptr_edit_in_toml.proofs.RenamingLemmas.{renames_by, no_refusal, target_there, unread_to_rename, untargeted}
 use Rattle.jsonptr_edit_in_toml.proofs.rename_document.renamed_document.Goals as goal
 
@@ -45,3 +46,10 @@ returns-in-Ok-clause-renamed c =
           c.in_ok-member.ensures.deleted
           c.in-Ok.ensures.assigned.assigned,
     )
+
+pub returns-in-Ok-clause-sorted : goal.returns-in-Ok-clause-sorted
+returns-in-Ok-clause-sorted c =
+    let d = view c.in_ok-document.document in
+    let old : HasSortedKeys d = reads_in_order c.args.text.now d c.in_ok-document.ensures.document in
+    let found : FindsValue d (tokens c.args.pointer) (view c.in-Some.member) = rw c.in-Some.is at c.in_ok-member.ensures.found in
+    c.in-Ok.ensures.sorted (ascends_part found.path d (view c.in-Some.member) old found.there) (c.in_ok-member.ensures.sorted old)

@@ -5,7 +5,6 @@ ghost use Rattle.jsonptr.specs.Pointer.{tokens};
 ghost use Rattle.jsonptr_in_toml.specs.InToml.{ReadsAsToml, AssignsAndPrintsToml};
 ghost use Rattle.jsonptr_edit_in_text.specs.Bytes.{KeepsBytes};
 ghost use Rattle.jsonptr_edit_in_text.specs.EditInText.{edited_text};
-ghost use Rattle.jsonptr_edit_in_text.specs.InPlace.{IsInPlaceError};
 ghost use Rattle.jsonptr_edit_in_toml.specs.EditInToml.{AssignsInToml, IsPrinted};
 ghost use Rattle.jsonptr_edit_in_toml.specs.Bytes.{AssignsTomlBytes};
 ghost use Rattle.jsonptr_edit_in_toml.specs.Failing.{IsAssignInTomlError};
@@ -16,41 +15,21 @@ use crate::given::{RawAssignment, is_given};
 use crate::given_plan::{GivenForm, plan_given_addition, plan_given_replacement};
 use crate::raw_value::RawTomlValue;
 use jsonptr::{Assign, Fault, Pointer, Resolve, assign};
-use jsonptr_edit_in_text::{Edited, InPlaceError};
+use jsonptr_edit_in_text::Edited;
 use jsonptr_in_toml::EditTomlError;
 use jsonptr_in_toml::depth::{MAX_TOML_DEPTH, has_too_many_tokens, toml_nests_within};
 use jsonptr_in_toml::document::read_toml;
 use std::alloc::{AllocError, Global};
 
-/// Assigns the raw value at the pointer in the document that the text contains, as
-/// [`assign_in_toml`](crate::assign_in_toml) does with its value, and keeps its text.
-///
-/// In place, what is at the pointer afterwards is the text of the raw value, byte for byte. There are two
-/// places where TOML has headers instead. If headers or dotted keys make the old value and the new one is
-/// a table or an array of tables, and if the array that it is added to has `[[..]]` headers, then headers
-/// and pairs hold the value, as with `assign_in_toml`. A document that is printed anew has the value as
-/// it is printed.
+/// Assigns the value with its own text at the pointer in the document that the text contains.
 ///
 /// Reads the old text once and the new one twice, once with another value, and scans the old one twice.
 /// Copies the document once.
 ///
 /// # Errors
 ///
-/// Those of [`assign_in_toml`](crate::assign_in_toml).
-///
-/// # Examples
-///
-/// ```rust
-/// let text = "[server]\nport = 80 # as ever\n";
-/// let port = Pointer::parse("/server/port")?;
-/// let edited = assign_raw_in_toml(alloc, text, port, &RawTomlValue::parse(alloc, "0x1F90")?)?;
-/// assert_eq!(rt; edited.as_str(), "[server]\nport = 0x1F90 # as ever\n");
-/// let limits = RawTomlValue::parse(alloc, "{ soft = 1_000, hard = 2_000 }")?;
-/// let edited = assign_raw_in_toml(alloc, text, Pointer::parse("/server/limits")?, &limits)?;
-/// let want = "[server]\nport = 80 # as ever\nlimits = { soft = 1_000, hard = 2_000 }\n";
-/// assert_eq!(rt; edited.as_str(), want);
-/// ```
-pub fn assign_raw_in_toml(
+/// Those of [`edit_toml`](crate::edit_toml) for an assignment.
+pub fn assign_in_toml(
     alloc: Global,
     text: &str,
     pointer: Pointer<'_>,
@@ -149,43 +128,5 @@ fn if_given(
         Ok(Some(new))
     } else {
         Ok(None)
-    }
-}
-
-/// Assigns as [`assign_raw_in_toml`] does, and never prints the document anew.
-///
-/// # Errors
-///
-/// [`InPlaceError::NotInPlace`] where [`assign_raw_in_toml`] prints the document anew, and
-/// [`InPlaceError::Edit`] with its error.
-///
-/// # Examples
-///
-/// ```rust
-/// let price = RawTomlValue::parse(alloc, "1.10")?;
-/// let pointer = Pointer::parse("/price")?;
-/// let new = assign_raw_in_toml_in_place(alloc, "price = 1.00\n", pointer, &price)?;
-/// assert_eq!(rt; new.as_str(), "price = 1.10\n");
-/// ```
-pub fn assign_raw_in_toml_in_place(
-    alloc: Global,
-    text: &str,
-    pointer: Pointer<'_>,
-    raw: &RawTomlValue,
-) -> Result<String, InPlaceError<EditTomlError<assign::Error>>>
-    ensures assigned { IfOk result (λ s. AssignsInToml text.now (tokens pointer.entry)
-        (view raw.now.value) (string_bytes s)) }
-    ensures bytes { IfOk result (λ s. AssignsTomlBytes text.now (tokens pointer.entry)
-        (view raw.now.value) (string_bytes s)) }
-    ensures given { IfOk result (λ s.
-        AssignsTomlGiven text.now (tokens pointer.entry) raw.now (string_bytes s)) }
-    ensures refused { IfErr result (IsInPlaceError
-        (AssignsInToml text.now (tokens pointer.entry) (view raw.now.value))
-        (IsAssignInTomlError text.now (tokens pointer.entry) (view raw.now.value))) }
-{
-    match assign_raw_in_toml(alloc, text, pointer, raw) {
-        Ok(Edited::InPlace(new)) => Ok(new),
-        Ok(Edited::Rewritten(_new)) => Err(InPlaceError::NotInPlace),
-        Err(error) => Err(InPlaceError::Edit(error)),
     }
 }

@@ -10,7 +10,7 @@ use Rattle.jsonptr_edit_in_toml.specs.Failing.{AssignsInOrder}
 use Rattle.jsonptr_edit_in_toml.specs.Giving.{AssignsTomlGiven}
 use Rattle.jsonptr_edit_in_toml.proofs.ChangingLemmas.{reads_in_order, refuted, not_more, assigned_print, unread_to_assign, unprinted_after_assign}
 use Rattle.jsonptr_edit_in_toml.proofs.GivingLemmas.{kept}
-use Rattle.jsonptr_edit_in_toml.proofs.assign_raw.assign_raw_in_toml.Goals as goal
+use Rattle.jsonptr_edit_in_toml.proofs.assign_given.assign_in_toml.Goals as goal
 
 pub returns-in_err-document-clause-refused : goal.returns-in_err-document-clause-refused
 returns-in_err-document-clause-refused c =
