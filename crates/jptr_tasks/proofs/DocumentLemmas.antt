@@ -9,7 +9,7 @@ use Rattle.jptr_tasks.specs.declared.task_error.TaskError.{TaskError}
 use Rattle.jptr_tasks.specs.declared.task_error.TaskError.TheVariants.{Read, Write}
 use Rattle.jptr_tasks.specs.declared.layout.Layout.{Layout}
 use Rattle.jptr_tasks.specs.declared.task.Task.{Task}
-use Rattle.jptr_tasks.specs.declared.task.Task.TheVariants.{Get, Set, Delete, Patch}
+use Rattle.jptr_tasks.specs.declared.task.Task.TheVariants.{Get, Edit}
 
 for_input : (known : Option (List ℕ)) (P : List ℕ → Type 0) (bytes : List ℕ) → IfSome known (λ xs. bytes ≡ xs) → P bytes → ForInput known P
 for_input None P bytes same h = (bytes, h)
@@ -18,9 +18,7 @@ for_input (Some xs) P bytes same h = subst P same h
 -- a task writes nothing, so no write fails
 no_write : (task : Task) (layout : Layout) (text : Text) → Fails task layout text Write → ⊥
 no_write (Get p fallback) layout text h = h
-no_write (Set p v) layout text h = h
-no_write (Delete p) layout text h = h
-no_write (Patch p) layout text h = h
+no_write (Edit edit) layout text h = h
 
 -- the task fails on all bytes of the input, and nothing is written
 pub stops_document : (task : Task) (layout : Layout) (known w : Option (List ℕ)) (bytes : List ℕ) (e : TaskError)

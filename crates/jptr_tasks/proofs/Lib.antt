@@ -5,8 +5,8 @@ mod DifferenceLemmas
 mod InverseLemmas
 mod CuttingLemmas
 mod OrderLemmas
-mod SameLemmas
 mod NodeLemmas
 mod OneErrorLemmas
 mod LongPatchLemmas
 mod DocumentLemmas
+mod ReprintLemmas

@@ -11,7 +11,7 @@ use Rattle.jsonptr_patch.specs.declared.comparison.Comparison.TheVariants.{Numer
 use Rattle.jsonptr_patch.specs.declared.operation.Operation.{Operation}
 use Rattle.jsonptr_patch_document.specs.Document.{IsPatch}
 use Rattle.jsonptr_value.proofs.LevelLemmas.{depth-within}
-use Rattle.jsonptr_edit_in_text.specs.InPlace.{StaysOneLine}
+use Rattle.jsonptr_edit_in_text.specs.OneLine.{StaysOneLine}
 use Rattle.jsonptr_edit_in_text.specs.PatchInText.{PatchesInText}
 use Rattle.jsonptr_relayout.specs.Relaying.{text_of_relaid, ReadsAs, IsRelayoutError}
 use Rattle.jsonptr_relayout.specs.declared.relaid.Relaid.{Relaid}

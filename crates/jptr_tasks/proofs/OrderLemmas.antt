@@ -5,7 +5,7 @@ use Rattle.jsonptr.specs.Text.{Text}
 use Rattle.jptr_tasks.specs.Documents.{TaskFailsOn}
 use Rattle.jptr_tasks.specs.LineResults.{IsLineFault, StopsRun}
 use Rattle.jptr_tasks.specs.declared.task_error.TaskError.{TaskError}
-use Rattle.jptr_tasks.specs.declared.task_error.TaskError.TheVariants.{NotPatch, Resolve, Assign, NotThere, PatchFailed, TooDeep, NotInPlace, NotLocated, PatchTooDeep, LineBreak, BadLine, NotUtf8, NotJson, Memory, Read, Write}
+use Rattle.jptr_tasks.specs.declared.task_error.TaskError.TheVariants.{NotPatch, Resolve, Assign, NotThere, NotRenamed, PatchFailed, TooDeep, NotInPlace, NotLocated, PatchTooDeep, LineBreak, BadLine, NotUtf8, NotJson, Memory, Read, Write}
 use Rattle.jptr_tasks.specs.declared.layout.Layout.{Layout}
 use Rattle.jptr_tasks.specs.declared.task.Task.{Task}
 
@@ -14,6 +14,7 @@ not_utf8 task layout l (NotPatch f) other h = absurd (other h.0)
 not_utf8 task layout l (Resolve f) other h = absurd (other h.0)
 not_utf8 task layout l (Assign f) other h = absurd (other h.0)
 not_utf8 task layout l NotThere other h = absurd (other h.0)
+not_utf8 task layout l (NotRenamed f) other h = absurd (other h.0)
 not_utf8 task layout l (PatchFailed f) other h = absurd (other h.0)
 not_utf8 task layout l TooDeep other h = absurd (other h.0)
 not_utf8 task layout l NotInPlace other h = absurd (other h.0)
@@ -32,6 +33,7 @@ not_utf8_document task layout bytes (NotPatch f) other stops h = absurd (other h
 not_utf8_document task layout bytes (Resolve f) other stops h = absurd (other h.0)
 not_utf8_document task layout bytes (Assign f) other stops h = absurd (other h.0)
 not_utf8_document task layout bytes NotThere other stops h = absurd (other h.0)
+not_utf8_document task layout bytes (NotRenamed f) other stops h = absurd (other h.0)
 not_utf8_document task layout bytes (PatchFailed f) other stops h = absurd (other h.0)
 not_utf8_document task layout bytes TooDeep other stops h = absurd (other h.0)
 not_utf8_document task layout bytes NotInPlace other stops h = absurd (other h.0)

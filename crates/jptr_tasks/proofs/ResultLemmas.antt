@@ -1,15 +1,13 @@
 -- From edits of a text to what is printed, and from what is printed to what a line writes.
-use Rattle.std.proofs.Common.{◌≡◌, ◌≢◌, ◌+◌, ◌<◌, ◌≤◌, inl, inr, ℕ, List, [], ◌∷◌, ◌++◌, length, length-append, get_or, false, Option, Some, None, Result, Ok, Err, IfOk, IfErr, All, String, string_bytes, refl, sym, ap, ◌∙◌, subst, arith}
+use Rattle.std.proofs.Common.{◌≡◌, ◌≢◌, ◌+◌, ◌<◌, ◌≤◌, inl, inr, ℕ, List, [], ◌∷◌, ◌++◌, length, length-append, get_or, false, Option, Some, None, Result, Ok, Err, IfOk, MatchOption, All, String, string_bytes, refl, sym, ap, ◌∙◌, subst, arith}
 use Rattle.std.specs.declared.alloc.Global.{Global}
 use Rattle.std.proofs.lemmas.List.{get_or-append-add, get_or_append_left}
 use Rattle.std.specs.Io.KnownBytes.{Appends}
 use Rattle.std.proofs.KnownBytes.{Appends-nil}
 use Rattle.serde_json.specs.Data.{Data}
+use Rattle.serde_json.specs.Read.{read}
 use Rattle.jsonptr.specs.Text.{Text}
-use Rattle.jsonptr.specs.Json.{nodes}
-use Rattle.jsonptr_edit_in_text.specs.Bytes.{AssignsBytes}
-use Rattle.jsonptr_edit_in_text.specs.EditInText.{AssignsInText, IsAssignError, DeletesInText}
-use Rattle.jsonptr_edit_in_text.specs.InPlace.{IsInPlaceError, StaysOneLine}
+use Rattle.jsonptr_edit_in_text.specs.OneLine.{StaysOneLine}
 use Rattle.jsonptr_edit_in_text.specs.Locating.{IsLocated}
 use Rattle.jsonptr_in_text.specs.Format.{IsFormatted}
 use Rattle.jsonptr_in_text.specs.declared.format.Format.TheVariants as format
@@ -17,109 +15,110 @@ use Rattle.json.specs.Print.{print}
 use Rattle.serde_json.specs.View.{view}
 use Rattle.serde_json.specs.declared.value.Value.{Value}
 use Rattle.jsonptr.specs.Pointer.{tokens}
-use Rattle.jsonptr_edit_in_text.specs.declared.edited.EditError.{EditError}
-use Rattle.jsonptr_edit_in_text.specs.declared.edited.EditError.TheVariants as edit
-use Rattle.jsonptr_edit_in_text.specs.declared.in_place.InPlaceError.{InPlaceError}
-use Rattle.jsonptr_edit_in_text.specs.declared.in_place.InPlaceError.TheVariants as in_place
+use Rattle.jsonptr_text_edit.specs.Edited.{text_of, is_in_place, IfInPlace}
+use Rattle.jsonptr_text_edit.specs.Edits.{EditsText, EditBytes}
+use Rattle.jsonptr_text_edit.specs.Errors.{IsEditError}
+use Rattle.jsonptr_text_edit.specs.declared.edit.Edit.{Edit}
+use Rattle.jsonptr_text_edit.specs.declared.edit.Edit.TheVariants as edits
+use Rattle.jsonptr_text_edit.specs.declared.edited.Edited.{Edited}
+use Rattle.jsonptr_text_edit.specs.declared.edited.Edited.TheVariants.{InPlace}
+use Rattle.jsonptr_text_edit.specs.declared.edit_error.EditError.{EditError}
+use Rattle.jsonptr_text_edit.specs.declared.edit_error.EditError.TheVariants as error
 use Rattle.jsonptr_io.specs.Lines.{IsOneLine}
 use Rattle.jsonptr_json_edits.specs.Spacing.{IsBlank}
 use Rattle.jsonptr_io.specs.Streams.{AppendsPrefix}
 use Rattle.jsonptr_paths.proofs.PlainLemmas.{plain_printed}
-use Rattle.jsonptr.specs.declared.assign.Error as assign
 use Rattle.jsonptr_patch.specs.declared.operation.Operation.{Operation}
 use Rattle.jsonptr_patch_document.specs.Document.{IsPatch}
-use Rattle.jsonptr_text_value.specs.Raw.{value_of_raw}
-use Rattle.jsonptr_edit_in_text.specs.Giving.{AssignsGiven}
-use Rattle.jsonptr_edit_in_text.specs.PatchInText.{PatchesInText}
 use Rattle.jsonptr_text_value.specs.Operations.{operations_in}
-use Rattle.jsonptr_edit_in_text.specs.RawPatching.{RawPatchBytes}
-use Rattle.jsonptr_text_value.specs.declared.raw_value.RawValue.{RawValue}
 use Rattle.jsonptr_edit_in_text.proofs.RawLemmas.{patch_bytes}
 use Rattle.jsonptr_value.specs.JsonText.{IsCompact}
 use Rattle.jptr_tasks.specs.Layouts.{Lays, CanBreak}
-use Rattle.jptr_tasks.specs.Failures.{of_in_place_assign_error}
-use Rattle.jptr_tasks.specs.Results.{Gets, Sets, DeletesInLayout, PatchesRawInLayout, Yields, FailsToGet, FailsToSet, FailsToPatch}
-use Rattle.jptr_tasks.specs.PrivateResults.{Remakes, FailsToApply, IsLayoutError, PatchedBy}
+use Rattle.jptr_tasks.specs.Failures.{of_edit_error}
+use Rattle.jptr_tasks.specs.Results.{Gets, EditsInLayout, PatchesBytesInLayout, Yields, FailsToGet, FailsToEdit, FailsToPatch}
+use Rattle.jptr_tasks.specs.PrivateResults.{Remakes, FailsToApply, IsLayoutError}
 use Rattle.jptr_tasks.specs.LineResults.{YieldsLine, IsLineFault, IsReport, StopsRun, fallback_line}
 use Rattle.jptr_tasks.specs.PrivateLineResults.{Known, OrMemory, IsNoMemory, IsPut, StopsPut}
 use Rattle.jptr_tasks.specs.declared.task_error.TaskError.{TaskError}
-use Rattle.jptr_tasks.specs.declared.task_error.TaskError.TheVariants.{NotPatch, PatchFailed, TooDeep, NotInPlace, NotJson, Memory, Write}
+use Rattle.jptr_tasks.specs.declared.task_error.TaskError.TheVariants.{PatchFailed, TooDeep, NotInPlace, NotJson, Memory, Write}
 use Rattle.jptr_tasks.specs.declared.layout.Layout.{Layout}
 use Rattle.jptr_tasks.specs.declared.layout.Layout.TheVariants.{Kept, Compact, Pretty, Sorted, SortedPretty, Raw}
 use Rattle.jptr_tasks.specs.declared.line.LineTask.{LineTask}
 use Rattle.jsonptr_text_value.specs.declared.patch_text.PatchText.{PatchText}
 use Rattle.jptr_tasks.specs.declared.task.Task.{Task}
-use Rattle.jptr_tasks.specs.declared.task.Task.TheVariants.{Get, Set, Delete, Patch}
+use Rattle.jptr_tasks.specs.declared.task.Task.TheVariants as task
 
--- ---- edits in place
+-- a text that is read is JSON
+no_text : (text : Text) (d : Data) → read text ≡ Some d → read text ≡ None → ⊥
+no_text text d h k =
+    let whole : Some d ≡ None = sym h ∙ k in
+    let wrong : ⊥ = cc in
+    wrong
 
-pub set_kept : (text : Text) (ts : List Text) (raw : RawValue) (out : Text)
-    → AssignsInText text ts (nodes (value_of_raw raw)) out → AssignsBytes text ts (value_of_raw raw) out → AssignsGiven text ts raw out → StaysOneLine text out → Sets text ts raw Kept out
-set_kept text ts raw out meaning bytes carries line = (out, meaning, refl, λ e. (bytes, carries, line))
+-- ---- edits
 
-pub patch_kept : (text : Text) (p : PatchText) (r : Result (String Global) TaskError)
-    → IfOk r (λ s. PatchesInText text (operations_in p.operations.items) (string_bytes s)) → IfOk r (λ s. RawPatchBytes text p.operations.items (string_bytes s)) → IfOk r (λ s. StaysOneLine text (string_bytes s)) → IfOk r (λ s. PatchesRawInLayout text p Kept (string_bytes s))
-patch_kept text p (Ok s) meaning bytes line = ((operations_in p.operations.items, string_bytes s, p.is_patch, meaning, refl, λ e. (patch_bytes text (string_bytes s) p.operations.items bytes, line)), λ e. bytes)
-patch_kept text p (Err f) meaning bytes line = tt
+-- in place
+pub kept : (text : Text) (edit : Edit) (s : String Global) → EditsText text edit (string_bytes s) → EditBytes text edit (string_bytes s) → StaysOneLine text (string_bytes s) → EditsInLayout text edit Kept (string_bytes s)
+kept text edit s meaning bytes line = (string_bytes s, meaning, refl, λ e. (bytes, line))
 
--- ---- documents that are printed anew
+pub in_place : (text : Text) (edit : Edit) (e : Edited) (o : Option (String Global))
+    → EditsText text edit (text_of e) → IfInPlace (EditBytes text edit) e → IfInPlace (StaysOneLine text) e
+    → MatchOption o (is_in_place e ≡ false) (λ s. e ≡ InPlace s)
+    → MatchOption o ((new : Text) × EditsText text edit new) (λ s. EditsInLayout text edit Kept (string_bytes s))
+in_place text edit e (Some s) meaning bytes line is =
+    let moved = subst (λ (x : Edited). EditsText text edit (text_of x) × IfInPlace (EditBytes text edit) x × IfInPlace (StaysOneLine text) x) is (meaning, bytes, line) in
+    kept text edit s moved.0 moved.1 moved.2
+in_place text edit e None meaning bytes line is = (text_of e, meaning)
 
+-- a document that is printed anew
 pub remade : (P : Text → Type 0) (layout : Layout) (t new : Text) (r : Result (String Global) TaskError)
     → P t → new ≡ t → IfOk r (λ s. Lays layout new (string_bytes s)) → IfOk r (λ s. Remakes P layout (string_bytes s))
 remade P layout t new (Ok s) p same h = (new, subst P (sym same) p, h)
 remade P layout t new (Err f) p same h = tt
 
-pub set_anew : (text : Text) (ts : List Text) (raw : RawValue) (layout : Layout) (r : Result (String Global) TaskError)
-    → (layout ≡ Kept → ⊥) → IfOk r (λ s. Remakes (AssignsInText text ts (nodes (value_of_raw raw))) layout (string_bytes s)) → IfOk r (λ s. Sets text ts raw layout (string_bytes s))
-set_anew text ts raw layout (Ok s) other h = (h.0, h.1, h.2, λ e. absurd (other e))
-set_anew text ts raw layout (Err f) other h = tt
+-- in another layout
+pub laid_out : (text : Text) (edit : Edit) (layout : Layout) (new : Text) (r : Result (String Global) TaskError)
+    → (layout ≡ Kept → ⊥) → EditsText text edit new → IfOk r (λ s. Lays layout new (string_bytes s)) → IfOk r (λ s. EditsInLayout text edit layout (string_bytes s))
+laid_out text edit layout new (Ok s) other meaning h = (new, meaning, h, λ e. absurd (other e))
+laid_out text edit layout new (Err f) other meaning h = tt
 
-pub delete_anew : (text : Text) (ts : List Text) (layout : Layout) (r : Result (String Global) TaskError)
-    → (layout ≡ Kept → ⊥) → IfOk r (λ s. Remakes (DeletesInText text ts) layout (string_bytes s)) → IfOk r (λ s. DeletesInLayout text ts layout (string_bytes s))
-delete_anew text ts layout (Ok s) other h = (h.0, h.1, h.2, λ e. absurd (other e))
-delete_anew text ts layout (Err f) other h = tt
+edited_reads : (text : Text) (edit : Edit) (new : Text) → EditsText text edit new → read new ≡ None → ⊥
+edited_reads text (edits.Assign pointer raw) new h none = no_text new h.1 h.3 none
+edited_reads text (edits.Delete pointer) new h none = no_text new h.1 h.3 none
+edited_reads text (edits.Rename pointer key) new h none = no_text new h.1 h.3 none
+edited_reads text (edits.Patch patch) new h none = no_text new h.1 h.3 none
 
-pub patch_anew : (text : Text) (p : PatchText) (layout : Layout) (r : Result (String Global) TaskError)
-    → (layout ≡ Kept → ⊥) → IfOk r (λ s. Remakes (PatchedBy text (view p.document)) layout (string_bytes s)) → IfOk r (λ s. PatchesRawInLayout text p layout (string_bytes s))
-patch_anew text p layout (Ok s) other h = ((h.1.0, h.0, h.1.1, h.1.2, h.2, λ e. absurd (other e)), λ e. absurd (other e))
-patch_anew text p layout (Err f) other h = tt
+-- a document after an edit is read, so only memory can lack
+pub not_laid_out : (text : Text) (edit : Edit) (layout : Layout) (new : Text) (e : TaskError) → EditsText text edit new → IsLayoutError new e → FailsToEdit text edit layout e
+not_laid_out text edit layout new NotJson meaning h = absurd (edited_reads text edit new meaning h)
+not_laid_out text edit layout new (Memory f) meaning h = tt
+not_laid_out text edit layout new other meaning h = absurd h
 
-pub patched_by : (text : Text) (patch : Data) (os : List Operation) (r : Result (String Global) TaskError)
-    → IsPatch patch os → IfOk r (λ s. PatchesInText text os (string_bytes s)) → IfOk r (λ s. PatchedBy text patch (string_bytes s))
-patched_by text patch os (Ok s) is h = (os, is, h)
-patched_by text patch os (Err f) is h = tt
+-- an edit that is not possible
+pub edit_fails : (text : Text) (edit : Edit) (layout : Layout) (e : EditError) → IsEditError text edit e → FailsToEdit text edit layout (of_edit_error e)
+edit_fails text edit layout error.NotJson h = h
+edit_fails text edit layout (error.Assign f) h = h
+edit_fails text edit layout error.NotThere h = h
+edit_fails text edit layout (error.Rename f) h = h
+edit_fails text edit layout (error.Patch f) h = h
+edit_fails text edit layout error.TooDeep h = h
+edit_fails text edit layout (error.Memory f) h = tt
 
--- ---- edits that are not made
+-- ---- a patch and its document
 
-pub set_fails : (text : Text) (ts : List Text) (v : Data) (e : InPlaceError (EditError assign.Error))
-    → IsInPlaceError (AssignsInText text ts (nodes v)) (IsAssignError text ts v) e → FailsToSet text ts v Kept (of_in_place_assign_error e)
-set_fails text ts v in_place.NotInPlace h = (refl, h)
-set_fails text ts v (in_place.Edit edit.NotJson) h = h
-set_fails text ts v (in_place.Edit (edit.Refused f)) h = h
-set_fails text ts v (in_place.Edit edit.TooDeep) h = h
-set_fails text ts v (in_place.Edit (edit.Memory f)) h = tt
+pub patch_printed : (text out : Text) (p : PatchText) (layout : Layout) → EditsInLayout text (edits.Patch p) layout out → PatchesBytesInLayout text (view p.document) layout out
+patch_printed text out p layout h =
+    (operations_in p.operations.items, h.0, p.is_patch, h.1, h.2, λ e. (patch_bytes text h.0 p.operations.items (h.3 e).0, (h.3 e).1))
 
--- the document of a patch that applies is read, so only memory can lack
-pub relaid_fails : (text : Text) (patch : Data) (layout : Layout) (new : Text) (e : TaskError) → PatchedBy text patch new → IsLayoutError new e → FailsToPatch text patch layout e
-relaid_fails text patch layout new NotJson h r =
-    let whole : Some h.2.1 ≡ None = sym h.2.3 ∙ r in
-    let never : ⊥ = cc in
-    absurd never
-relaid_fails text patch layout new (Memory f) h r = tt
-relaid_fails text patch layout new other h r = absurd r
+pub patch_refused : (text : Text) (p : PatchText) (layout : Layout) (e : TaskError) → FailsToEdit text (edits.Patch p) layout e → FailsToPatch text (view p.document) layout e
+patch_refused text p layout NotJson h = ((operations_in p.operations.items, p.is_patch), h)
+patch_refused text p layout (PatchFailed f) h = (operations_in p.operations.items, h.0, p.is_patch, h.1, h.2)
+patch_refused text p layout TooDeep h = (operations_in p.operations.items, p.is_patch, h)
+patch_refused text p layout NotInPlace h = (h.0, (operations_in p.operations.items, h.1.0, p.is_patch, h.1.1))
+patch_refused text p layout (Memory f) h = tt
+patch_refused text p layout e h = absurd h
 
--- what fails in another layout than the one that is kept fails in each
-pub fails_anew : (text : Text) (patch : Data) (layout : Layout) (e : TaskError) → FailsToPatch text patch Compact e → FailsToPatch text patch layout e
-fails_anew text patch layout (NotPatch f) h = h
-fails_anew text patch layout (PatchFailed f) h = h
-fails_anew text patch layout TooDeep h = h
-fails_anew text patch layout NotInPlace h =
-    let other : Compact ≡ Kept = h.0 in
-    let never : ⊥ = cc in
-    absurd never
-fails_anew text patch layout NotJson h = h
-fails_anew text patch layout (Memory f) h = tt
-fails_anew text patch layout other h = absurd h
+-- ---- errors of a document and of its operations
 
 pub patch_fails : (text : Text) (patch : Data) (os : List Operation) (layout : Layout) (e : TaskError) → IsPatch patch os → FailsToApply text os layout e → FailsToPatch text patch layout e
 patch_fails text patch os layout (PatchFailed f) is h = (os, h.0, is, h.1, h.2)
@@ -128,11 +127,6 @@ patch_fails text patch os layout NotInPlace is h = (h.0, (os, h.1.0, is, h.1.1))
 patch_fails text patch os layout NotJson is h = ((os, is), h)
 patch_fails text patch os layout (Memory f) is h = tt
 patch_fails text patch os layout other is h = absurd h
-
-pub patch_not_made : (text : Text) (patch : Data) (os : List Operation) (layout : Layout) (r : Result (String Global) TaskError)
-    → IsPatch patch os → IfErr r (FailsToApply text os layout) → IfErr r (FailsToPatch text patch layout)
-patch_not_made text patch os layout (Ok s) is h = tt
-patch_not_made text patch os layout (Err e) is h = patch_fails text patch os layout e is h
 
 -- ---- results that are one line
 
@@ -171,22 +165,16 @@ get_sorted l out ts fallback h = elim h [
 ]
 
 kept_result : (task : Task) (l out : Text) → IsOneLine l → Yields task Kept l out → IsOneLine out
-kept_result (Get p fallback) l out one h = get_kept l out (tokens p) fallback one h
-kept_result (Set p v) l out one h = subst IsOneLine (sym h.2) ((h.3 refl).2 one)
-kept_result (Delete p) l out one h = subst IsOneLine (sym h.2) ((h.3 refl).1 one)
-kept_result (Patch p) l out one h = subst IsOneLine (sym h.0.4) ((h.0.5 refl).1 one)
+kept_result (task.Get p fallback) l out one h = get_kept l out (tokens p) fallback one h
+kept_result (task.Edit edit) l out one h = subst IsOneLine (sym h.2) ((h.3 refl).1 one)
 
 compact_result : (task : Task) (l out : Text) → Yields task Compact l out → IsOneLine out
-compact_result (Get p fallback) l out h = get_compact l out (tokens p) fallback h
-compact_result (Set p v) l out h = formatted_line h.0 out h.2
-compact_result (Delete p) l out h = formatted_line h.0 out h.2
-compact_result (Patch p) l out h = formatted_line h.0.1 out h.0.4
+compact_result (task.Get p fallback) l out h = get_compact l out (tokens p) fallback h
+compact_result (task.Edit edit) l out h = formatted_line h.0 out h.2
 
 sorted_result : (task : Task) (l out : Text) → Yields task Sorted l out → IsOneLine out
-sorted_result (Get p fallback) l out h = get_sorted l out (tokens p) fallback h
-sorted_result (Set p v) l out h = compact_line h.2.0 out h.2.2
-sorted_result (Delete p) l out h = compact_line h.2.0 out h.2.2
-sorted_result (Patch p) l out h = compact_line h.0.4.0 out h.0.4.2
+sorted_result (task.Get p fallback) l out h = get_sorted l out (tokens p) fallback h
+sorted_result (task.Edit edit) l out h = compact_line h.2.0 out h.2.2
 
 -- only a layout that can break makes several lines of one
 pub can_break : (task : Task) (layout : Layout) (l out : Text) → Yields task layout l out → (IsOneLine out → ⊥) → IsOneLine l → CanBreak layout

@@ -10,14 +10,12 @@ use Rattle.jptr_tasks.specs.declared.task_error.TaskError.TheVariants.{NotJson, 
 use Rattle.jptr_tasks.specs.declared.layout.Layout.{Layout}
 use Rattle.jptr_tasks.specs.declared.layout.Layout.TheVariants.{Kept}
 use Rattle.jptr_tasks.specs.declared.task.Task.{Task}
-use Rattle.jptr_tasks.specs.declared.task.Task.TheVariants.{Get, Set, Delete, Patch}
+use Rattle.jptr_tasks.specs.declared.task.Task.TheVariants.{Get, Edit}
 
 -- `EndsInBreak task layout`: a line feed is printed after the result. A changed document that keeps its layout gets none
 abbrev pub EndsInBreak : Task → Layout → Type 0
 EndsInBreak (Get p fallback) layout = ⊤
-EndsInBreak (Set p v) layout = layout ≢ Kept
-EndsInBreak (Delete p) layout = layout ≢ Kept
-EndsInBreak (Patch d) layout = layout ≢ Kept
+EndsInBreak (Edit edit) layout = layout ≢ Kept
 
 -- `Prints task layout bytes out`: `out` is printed for the task on the document `bytes`
 abbrev pub Prints : Task → Layout → List ℕ → Text → Type 0

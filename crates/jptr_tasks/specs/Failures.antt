@@ -1,19 +1,17 @@
 -- The errors of a command: how those of the calls below become them, and the exit status of each.
 use Rattle.std.specs.Prelude.{ℕ}
-use Rattle.jsonptr.specs.declared.assign.Error as assign
-use Rattle.jsonptr_patch.specs.declared.failed_operation.FailedOperation.{FailedOperation}
 use Rattle.jsonptr_io.specs.declared.input.InputError.{InputError}
 use Rattle.jsonptr_io.specs.declared.input.InputError.TheVariants as input
 use Rattle.jsonptr_value.specs.declared.from_text.ReadError.{ReadError}
 use Rattle.jsonptr_value.specs.declared.from_text.ReadError.TheVariants as unread
 use Rattle.jsonptr_in_text.specs.declared.resolve.InTextError.{InTextError}
 use Rattle.jsonptr_in_text.specs.declared.resolve.InTextError.TheVariants as in_text
-use Rattle.jsonptr_edit_in_text.specs.declared.locate.LocateError.{LocateError}
-use Rattle.jsonptr_edit_in_text.specs.declared.locate.LocateError.TheVariants as locate
-use Rattle.jsonptr_edit_in_text.specs.declared.edited.EditError.{EditError}
-use Rattle.jsonptr_edit_in_text.specs.declared.edited.EditError.TheVariants as edit
-use Rattle.jsonptr_edit_in_text.specs.declared.in_place.InPlaceError.{InPlaceError}
-use Rattle.jsonptr_edit_in_text.specs.declared.in_place.InPlaceError.TheVariants as in_place
+use Rattle.jsonptr_edit_in_text.specs.declared.find.LocateError.{LocateError}
+use Rattle.jsonptr_edit_in_text.specs.declared.find.LocateError.TheVariants as locate
+use Rattle.jsonptr_edit_in_text.specs.declared.rename.RenameError.{RenameError}
+use Rattle.jsonptr_edit_in_text.specs.declared.rename.RenameError.TheVariants as rename
+use Rattle.jsonptr_text_edit.specs.declared.edit_error.EditError.{EditError}
+use Rattle.jsonptr_text_edit.specs.declared.edit_error.EditError.TheVariants as edit
 use Rattle.jsonptr_text_value.specs.declared.patch_text_error.PatchTextError.{PatchTextError}
 use Rattle.jsonptr_text_value.specs.declared.patch_text_error.PatchTextError.TheVariants as patch_text
 use Rattle.jsonptr_paths.specs.declared.build.LineError.{LineError}
@@ -23,7 +21,7 @@ use Rattle.jsonptr_paths.specs.declared.build.BuildError.TheVariants as build
 use Rattle.jsonptr_relayout.specs.declared.relaid.RelayoutError.{RelayoutError}
 use Rattle.jsonptr_relayout.specs.declared.relaid.RelayoutError.TheVariants as relayout
 use Rattle.jptr_tasks.specs.declared.task_error.TaskError.{TaskError}
-use Rattle.jptr_tasks.specs.declared.task_error.TaskError.TheVariants.{NotPatch, Resolve, Assign, NotThere, PatchFailed, TooDeep, NotInPlace, NotLocated, PatchTooDeep, LineBreak, BadLine, NotUtf8, NotJson, Memory, Read, Write}
+use Rattle.jptr_tasks.specs.declared.task_error.TaskError.TheVariants.{NotPatch, Resolve, Assign, NotThere, NotRenamed, PatchFailed, TooDeep, NotInPlace, NotLocated, PatchTooDeep, LineBreak, BadLine, NotUtf8, NotJson, Memory, Read, Write}
 
 -- `status_of_line e`: the exit status if a line adds no value, for the reason `e`
 abbrev pub status_of_line : LineError → ℕ
@@ -33,12 +31,19 @@ status_of_line line.TooDeep = 6
 status_of_line line.NotJson = 3
 status_of_line (line.Assign e) = 6
 
+-- `status_of_rename e`: the exit status if a member does not get another key, for the reason `e`
+abbrev pub status_of_rename : RenameError → ℕ
+status_of_rename rename.NotThere = 1
+status_of_rename rename.NotAMember = 6
+status_of_rename rename.KeyTaken = 6
+
 -- `status_of_task e`: the exit status of the program after the error `e`
 abbrev pub status_of_task : TaskError → ℕ
 status_of_task (NotPatch e) = 3
 status_of_task (Resolve e) = 1
 status_of_task (Assign e) = 6
 status_of_task NotThere = 1
+status_of_task (NotRenamed e) = status_of_rename e
 status_of_task (PatchFailed e) = 1
 status_of_task TooDeep = 6
 status_of_task NotInPlace = 6
@@ -75,19 +80,15 @@ of_locate_error (locate.Resolve e) = Resolve e
 of_locate_error locate.NotLocated = NotLocated
 of_locate_error (locate.Memory e) = Memory e
 
--- `of_assign_error e`: the error of the command if a value cannot be assigned in a text
-abbrev pub of_assign_error : EditError assign.Error → TaskError
-of_assign_error edit.NotJson = NotJson
-of_assign_error (edit.Refused e) = Assign e
-of_assign_error edit.TooDeep = TooDeep
-of_assign_error (edit.Memory e) = Memory e
-
--- `of_patch_error e`: the error of the command if a patch is not applied in a text
-abbrev pub of_patch_error : EditError FailedOperation → TaskError
-of_patch_error edit.NotJson = NotJson
-of_patch_error (edit.Refused e) = PatchFailed e
-of_patch_error edit.TooDeep = TooDeep
-of_patch_error (edit.Memory e) = Memory e
+-- `of_edit_error e`: the error of the command if an edit of a text is not made
+abbrev pub of_edit_error : EditError → TaskError
+of_edit_error edit.NotJson = NotJson
+of_edit_error (edit.Assign e) = Assign e
+of_edit_error edit.NotThere = NotThere
+of_edit_error (edit.Rename e) = NotRenamed e
+of_edit_error (edit.Patch e) = PatchFailed e
+of_edit_error edit.TooDeep = TooDeep
+of_edit_error (edit.Memory e) = Memory e
 
 -- `of_patch_text_error e`: the error of the command if a patch document is not read or not made
 abbrev pub of_patch_text_error : PatchTextError → TaskError
@@ -95,16 +96,6 @@ of_patch_text_error (patch_text.NotPatch e) = NotPatch e
 of_patch_text_error patch_text.NotLocated = NotLocated
 of_patch_text_error patch_text.TooDeep = PatchTooDeep
 of_patch_text_error (patch_text.Memory e) = Memory e
-
--- `of_in_place_assign_error e`, `of_in_place_delete_error e`: the same of edits that are made in place
--- or not at all
-abbrev pub of_in_place_assign_error : InPlaceError (EditError assign.Error) → TaskError
-of_in_place_assign_error in_place.NotInPlace = NotInPlace
-of_in_place_assign_error (in_place.Edit e) = of_assign_error e
-
-abbrev pub of_in_place_delete_error : InPlaceError ReadError → TaskError
-of_in_place_delete_error in_place.NotInPlace = NotInPlace
-of_in_place_delete_error (in_place.Edit e) = of_read_error e
 
 -- `of_build_error e`: the error of the command if lines build no document
 abbrev pub of_build_error : BuildError → TaskError

@@ -2,6 +2,7 @@
 pub mod Failures
 pub mod Layouts
 pub mod Nodes
+pub mod Reprinting
 pub mod Results
 pub mod Differences
 pub mod Inverting

@@ -1,6 +1,6 @@
 -- What is printed anew, why a text is not printed anew, and why a patch is not read or applied. Used only by private
 -- contracts.
-use Rattle.std.specs.Prelude.{◌≡◌, ◌<◌, List, [], ◌∷◌, Some, None, ⊤, All}
+use Rattle.std.specs.Prelude.{◌≡◌, ◌<◌, List, Some, None, ⊤, All}
 use Rattle.serde_json.specs.Data.{Data, depth}
 use Rattle.serde_json.specs.Read.{read, max_depth}
 use Rattle.jsonptr.specs.Text.{Text}
@@ -10,15 +10,12 @@ use Rattle.jsonptr_patch.specs.Order.{OperationHasSortedKeys}
 use Rattle.jsonptr_patch.specs.Patching.{PatchesBy, FailsBy}
 use Rattle.jsonptr_patch.specs.declared.comparison.Comparison.TheVariants.{Numeric}
 use Rattle.jsonptr_patch.specs.declared.operation.Operation.{Operation}
-use Rattle.jsonptr_patch_document.specs.Document.{IsPatch, IsNoPatch}
+use Rattle.jsonptr_patch_document.specs.Document.{IsNoPatch}
 use Rattle.jsonptr_patch_document.specs.Writing.{document_of}
-use Rattle.jsonptr_edit_in_text.specs.InPlace.{StaysOneLine}
+use Rattle.jsonptr_edit_in_text.specs.OneLine.{StaysOneLine}
 use Rattle.jsonptr_edit_in_text.specs.PatchInText.{PatchesInText, IsPatchError}
 use Rattle.jsonptr_edit_in_text.specs.declared.edited.EditError.TheVariants as edit
-use Rattle.jsonptr_text_value.specs.declared.raw_operation.RawOperation.{RawOperation}
-use Rattle.jsonptr_text_value.specs.declared.raw_value.RawValue.{RawValue}
 use Rattle.jptr_tasks.specs.Layouts.{Lays}
-use Rattle.jsonptr_text_value.specs.declared.patch_text.PatchText.{PatchText}
 use Rattle.jptr_tasks.specs.declared.task_error.TaskError.{TaskError}
 use Rattle.jptr_tasks.specs.declared.task_error.TaskError.TheVariants.{NotPatch, PatchFailed, TooDeep, NotInPlace, PatchTooDeep, NotJson, Memory}
 use Rattle.jptr_tasks.specs.declared.layout.Layout.{Layout}
@@ -27,10 +24,6 @@ use Rattle.jptr_tasks.specs.declared.layout.Layout.TheVariants.{Kept}
 -- `Remakes P layout out`: `out` is the document of a text that meets `P`, in this layout
 abbrev pub Remakes : (Text → Type 0) → Layout → Text → Type 0
 Remakes P layout out = (new : Text) × P new × Lays layout new out
-
--- `PatchedBy text patch new`: the operations that the document `patch` is turn the document of `text` into that of `new`
-abbrev pub PatchedBy : Text → Data → Text → Type 0
-PatchedBy text patch new = (os : List Operation) × IsPatch patch os × PatchesInText text os new
 
 -- `AppliesInLayout text os layout out`: `out` is the document of `text` after the operations `os`, in this layout. In the layout
 -- `Kept` a text of one line stays one line

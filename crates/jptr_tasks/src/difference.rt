@@ -30,7 +30,7 @@ pub struct PrintedPatch {
 ///
 /// It has no operation if both are the same, floats by their bits.
 ///
-/// Its text reads as the patch document, so [`Task::Patch`](crate::task::Task::Patch) applies it to
+/// Its text reads as the patch document, so [`Edit::Patch`](jsonptr_text_edit::Edit::Patch) applies it to
 /// `old`, and the result is `new` ([`printed_difference_law`](crate::laws::printed_difference_law)).
 ///
 /// # Errors

@@ -27,7 +27,7 @@ use std::io;
 /// # Examples
 ///
 /// ```rust
-/// let task = Task::Delete(Pointer::parse("/b")?);
+/// let task = Task::Edit(Edit::Delete(Pointer::parse("/b")?));
 /// let new = document_result(alloc, b"{\"a\": 1, \"b\": 1}", &task, Layout::Kept)?;
 /// assert_eq!(rt; new.as_str(), "{\"a\": 1}");
 /// let compact = document_result(alloc, b"{\"a\": 1, \"b\": 1}", &task, Layout::Compact)?;
@@ -83,7 +83,7 @@ fn ends_in_break(task: &Task<'_>, layout: Layout) -> bool
 {
     match task {
         Task::Get(_, _) => true,
-        Task::Set(_, _) | Task::Delete(_) | Task::Patch(_) => layout != Layout::Kept,
+        Task::Edit(_) => layout != Layout::Kept,
     }
 }
 

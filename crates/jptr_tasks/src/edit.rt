@@ -1,144 +1,43 @@
 //! Changing a document in its text: in place, or by printing it anew where that is wanted.
 ghost use Rattle.std.specs.Prelude.{IfOk, IfErr, string_bytes};
-ghost use Rattle.jsonptr.specs.Pointer.{tokens};
-ghost use Rattle.jsonptr.specs.Json.{nodes};
-ghost use Rattle.jsonptr_text_value.specs.Raw.{value_of_raw};
-ghost use Rattle.jsonptr_edit_in_text.specs.EditInText.{AssignsInText, DeletesInText};
-ghost use Rattle.jptr_tasks.specs.Results.{Sets, DeletesInLayout, FailsToSet, FailsToDelete};
-ghost use Rattle.jptr_tasks.specs.PrivateResults.{Remakes};
+ghost use Rattle.jsonptr_text_edit.specs.Edited.{text_of};
+ghost use Rattle.jptr_tasks.specs.Layouts.{Lays};
+ghost use Rattle.jptr_tasks.specs.PrivateResults.{IsLayoutError};
+ghost use Rattle.jptr_tasks.specs.Results.{EditsInLayout, FailsToEdit};
 
 use crate::layout::{Layout, lay_out};
 use crate::task_error::TaskError;
-use jsonptr::Pointer;
-use jsonptr_edit_in_text::{
-    Buffers, RawValue, assign_raw_in_place, assign_raw_in_text_with, delete_in_place,
-    delete_in_text_with,
-};
-use std::alloc::Global;
+use jsonptr_text_edit::{Buffers, Edit, Edited, edit_text};
 
-/// Assigns the value at the pointer in the text, and returns the new document in this layout.
+/// Makes the edit in the text, and returns the new document in this layout.
 ///
-/// With [`Layout::Kept`] the text is edited in place. In another layout the new text is laid out as
-/// [`Layout`] says.
+/// With [`Layout::Kept`] the edit is made in place. In another layout the new text is laid out as [`Layout`]
+/// says.
 ///
 /// # Errors
 ///
-/// Those of [`result_in_text`](crate::result::result_in_text) for `Task::Set`.
-pub fn set(
+/// Those of [`result_in_text`](crate::result::result_in_text) for `Task::Edit`.
+pub fn edit(
     buffers: &mut Buffers,
     text: &str,
-    pointer: Pointer<'_>,
-    raw: &RawValue,
+    edit: &Edit<'_>,
     layout: Layout,
 ) -> Result<String, TaskError>
-    ensures assigned { IfOk result (λ s. Sets text.now (tokens pointer.entry) raw.now layout
-        (string_bytes s)) }
-    ensures refused { IfErr result
-        (FailsToSet text.now (tokens pointer.entry) (value_of_raw raw.now) layout) }
+    ensures edited { IfOk result (λ s. EditsInLayout text.now edit.now layout (string_bytes s)) }
+    ensures refused { IfErr result (FailsToEdit text.now edit.now layout) }
 {
+    let edited = edit_text(buffers, text, edit)?;
     match layout {
-        Layout::Kept => set_in_place(buffers, text, pointer, raw),
-        _ => set_anew(buffers, text, pointer, raw, layout),
+        Layout::Kept => edited.in_place().ok_or(TaskError::NotInPlace),
+        _ => laid_out(buffers, edited, layout),
     }
 }
 
-/// Assigns the value at the pointer in the text, in place.
-fn set_in_place(
-    buffers: &mut Buffers,
-    text: &str,
-    pointer: Pointer<'_>,
-    raw: &RawValue,
-) -> Result<String, TaskError>
-    ensures assigned { IfOk result (λ s. Sets text.now (tokens pointer.entry) raw.now
-        Layout.Kept (string_bytes s)) }
-    ensures refused { IfErr result
-        (FailsToSet text.now (tokens pointer.entry) (value_of_raw raw.now) Layout.Kept) }
+/// Returns the text of the document with its tokens laid out anew.
+fn laid_out(buffers: &mut Buffers, edited: Edited, layout: Layout) -> Result<String, TaskError>
+    ensures laid_out { IfOk result (λ s. Lays layout (text_of edited) (string_bytes s)) }
+    ensures refused { IfErr result (IsLayoutError (text_of edited)) }
 {
-    let alloc = *raw.printed.flat.allocator();
-    match assign_raw_in_place(alloc, buffers, text, pointer, raw) {
-        Ok(new) => Ok(new),
-        Err(error) => Err(TaskError::from(error)),
-    }
-}
-
-/// Assigns the value at the pointer in the text, and prints the new document in this layout.
-fn set_anew(
-    buffers: &mut Buffers,
-    text: &str,
-    pointer: Pointer<'_>,
-    raw: &RawValue,
-    layout: Layout,
-) -> Result<String, TaskError>
-    ensures assigned { IfOk result (λ s. Remakes
-        (AssignsInText text.now (tokens pointer.entry) (nodes (value_of_raw raw.now))) layout
-        (string_bytes s)) }
-    ensures refused { IfErr result
-        (FailsToSet text.now (tokens pointer.entry) (value_of_raw raw.now) layout) }
-{
-    let alloc = *raw.printed.flat.allocator();
-    let edited = assign_raw_in_text_with(alloc, buffers, text, pointer, raw)?;
-    lay_out(alloc, &mut buffers.old, edited.as_str(), layout)
-}
-
-/// Deletes the value that the pointer resolves to in the text, and returns the new document in this
-/// layout.
-///
-/// With [`Layout::Kept`] the text is edited in place. In another layout the new text is laid out as
-/// [`Layout`] says.
-///
-/// # Errors
-///
-/// Those of [`result_in_text`](crate::result::result_in_text) for `Task::Delete`.
-pub fn delete(
-    alloc: Global,
-    buffers: &mut Buffers,
-    text: &str,
-    pointer: Pointer<'_>,
-    layout: Layout,
-) -> Result<String, TaskError>
-    ensures deleted { IfOk result (λ s. DeletesInLayout text.now (tokens pointer.entry) layout
-        (string_bytes s)) }
-    ensures refused { IfErr result (FailsToDelete text.now (tokens pointer.entry) layout) }
-{
-    match layout {
-        Layout::Kept => cut_out(alloc, buffers, text, pointer),
-        _ => delete_anew(alloc, buffers, text, pointer, layout),
-    }
-}
-
-/// Deletes the value that the pointer resolves to in the text, in place.
-fn cut_out(
-    alloc: Global,
-    buffers: &mut Buffers,
-    text: &str,
-    pointer: Pointer<'_>,
-) -> Result<String, TaskError>
-    ensures deleted { IfOk result (λ s. DeletesInLayout text.now (tokens pointer.entry) Layout.Kept
-        (string_bytes s)) }
-    ensures refused { IfErr result
-        (FailsToDelete text.now (tokens pointer.entry) Layout.Kept) }
-{
-    match delete_in_place(alloc, buffers, text, pointer)? {
-        Some(new) => Ok(new),
-        None => Err(TaskError::NotThere),
-    }
-}
-
-/// Deletes the value that the pointer resolves to in the text, and prints the new document in this
-/// layout.
-fn delete_anew(
-    alloc: Global,
-    buffers: &mut Buffers,
-    text: &str,
-    pointer: Pointer<'_>,
-    layout: Layout,
-) -> Result<String, TaskError>
-    ensures deleted { IfOk result (λ s. Remakes (DeletesInText text.now (tokens pointer.entry)) layout
-        (string_bytes s)) }
-    ensures refused { IfErr result (FailsToDelete text.now (tokens pointer.entry) layout) }
-{
-    match delete_in_text_with(alloc, buffers, text, pointer)? {
-        Some(edited) => lay_out(alloc, &mut buffers.old, edited.as_str(), layout),
-        None => Err(TaskError::NotThere),
-    }
+    let new = edited.or_reprinted();
+    lay_out(buffers.alloc, &mut buffers.old, new.as_str(), layout)
 }

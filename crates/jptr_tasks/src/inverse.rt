@@ -22,7 +22,7 @@ use std::alloc::Global;
 /// Returns the inverse of the patch document: it turns the document of the text after the patch into
 /// the document of the text.
 ///
-/// [`Task::Patch`](crate::task::Task::Patch) applies both. In a layout other than
+/// [`Edit::Patch`](jsonptr_text_edit::Edit::Patch) applies both. In a layout other than
 /// [`Layout::Raw`], what is printed after both is read as the document of the text
 /// ([`printed_inverse_law`](crate::laws::printed_inverse_law)).
 ///

@@ -25,7 +25,7 @@ ghost use Rattle.jptr_tasks.specs.Inverting.{IsInverse, TakesPatchBack, FailsToI
 ghost use Rattle.jptr_tasks.specs.Layouts.{ShowsInLayout, ReadsBack};
 ghost use Rattle.jptr_tasks.specs.Paths.{ListsText, BuildsText, FailsToBuild};
 ghost use Rattle.jptr_tasks.specs.Replacement.{AtEachMoment, IsDurable, IsGuarded, IsReplaced};
-ghost use Rattle.jptr_tasks.specs.Results.{PatchesBytesInLayout, FailsToPatch};
+ghost use Rattle.jptr_tasks.specs.Results.{EditsInLayout, FailsToEdit, PatchesBytesInLayout, FailsToPatch};
 ghost use Rattle.jptr_tasks.specs.declared.difference.PrintedPatch.{PrintedPatch};
 ghost use Rattle.jptr_tasks.specs.declared.task_error.TaskError.{TaskError};
 ghost use Rattle.jptr_tasks.specs.declared.task_error.TaskError.TheVariants.{BadLine, NotInPlace, PatchTooDeep, NotJson, Memory};
@@ -34,7 +34,8 @@ ghost use Rattle.jptr_tasks.specs.declared.line.LineTask.{LineTask};
 ghost use Rattle.jptr_tasks.specs.declared.replacement.Event.TheVariants.{Create, Look, Remove, Rename, Sync, SyncFolder, TakeRights, Write};
 ghost use Rattle.jsonptr_text_value.specs.declared.patch_text.PatchText.{PatchText};
 ghost use Rattle.jptr_tasks.specs.declared.task.Task.{Task};
-ghost use Rattle.jptr_tasks.specs.declared.task.Task.TheVariants.{Patch};
+ghost use Rattle.jptr_tasks.specs.declared.task.Task.TheVariants as task;
+ghost use Rattle.jsonptr_text_edit.specs.declared.edit.Edit.TheVariants.{Patch};
 ghost use Rattle.jptr_tasks.specs.declared.layout.Layout.TheVariants.{Kept, Raw};
 
 pub mod one_error;
@@ -61,6 +62,17 @@ pub fn paths_law()
 {
     round_trip_law();
 }
+
+/// States that the result of an edit by a patch is that of its document (`printed`), and so is its error
+/// (`refused`).
+pub fn patch_law()
+    ensures printed { (text out : Text) (patch : PatchText) (layout : Layout)
+        → EditsInLayout text (Patch patch) layout out
+        → PatchesBytesInLayout text (view patch.document) layout out }
+    ensures refused { (text : Text) (patch : PatchText) (layout : Layout) (e : TaskError)
+        → FailsToEdit text (Patch patch) layout e
+        → FailsToPatch text (view patch.document) layout e }
+{}
 
 /// States what `patch` does after `diff`, as texts.
 ///
@@ -170,13 +182,6 @@ pub fn order_law()
         → (IsUtf8 l → ⊥) → IsLineFault task layout l e → e ≡ NotJson }
     ensures patch { (text : Text) (patch : Data) (layout : Layout) (e : PatchDocumentError)
         → IsNoPatch patch e → FailsToPatch text patch layout NotJson → ⊥ }
-    ensures patch_of_line { (patch : PatchText) (layout : Layout) (l : Text)
-        (e : PatchDocumentError)
-        → IsUtf8 l → IsNoPatch (view patch.document) e → IsLineFault (Patch patch) layout l NotJson → ⊥ }
-    ensures patch_of_bytes { (patch : PatchText) (layout : Layout) (bytes : List ℕ)
-        (e : PatchDocumentError)
-        → IsUtf8 bytes → IsNoPatch (view patch.document) e → TaskFailsOn (Patch patch) layout bytes NotJson
-        → ⊥ }
 {
     patch_document_law();
 }

@@ -1,7 +1,7 @@
 //! What the commands of a program do with the text of a JSON document, and with a document on each
 //! line of an input.
 //!
-//! - [`task`]: what to do with a document: find a value, assign one, delete one, or apply a patch.
+//! - [`task`]: what to do with a document: find a value, or make an edit.
 //! - [`layout`]: how the result is printed.
 //! - [`result`]: the result of a task on one text.
 //! - [`difference`]: the patch document that turns one document into another.
@@ -10,7 +10,8 @@
 //! - [`line`]: a task on one line, and [`lines`]: on each line of an input.
 //! - [`node`]: the type, the length and the keys of a value, and whether it equals another one.
 //! - [`paths`]: a document as lines of pointers and values, and a document from such lines.
-//! - [`patch`]: applying a patch document, and [`long_patch`]: one of many operations.
+//! - [`patch`]: the operations of a patch document, and [`long_patch`]: applying one of many operations.
+//! - [`reprint`]: an edit, in place or in a document that is printed anew, if no digit is lost.
 //! - [`replacement`]: replacing the text of a file, whatever moment the system stops at.
 //! - [`task_error`]: the errors, and the exit status of each.
 //! - [`exit_status`]: what each exit status means.
@@ -32,6 +33,7 @@ pub mod node;
 pub mod patch;
 pub mod paths;
 pub mod replacement;
+pub mod reprint;
 pub mod result;
 pub mod task;
 pub mod task_error;

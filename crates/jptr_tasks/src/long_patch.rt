@@ -6,7 +6,7 @@ ghost use Rattle.jsonptr_patch.specs.Patching.{PatchesBy};
 ghost use Rattle.jsonptr_patch.specs.Order.{OperationHasSortedKeys};
 ghost use Rattle.jsonptr_patch.specs.declared.comparison.Comparison.TheVariants.{Numeric};
 ghost use Rattle.jsonptr_relayout.specs.Relaying.{text_of_relaid, ReadsAs};
-ghost use Rattle.jsonptr_edit_in_text.specs.InPlace.{StaysOneLine};
+ghost use Rattle.jsonptr_edit_in_text.specs.OneLine.{StaysOneLine};
 ghost use Rattle.jsonptr_edit_in_text.specs.PatchInText.{PatchesInText};
 ghost use Rattle.jptr_tasks.specs.Results.{PatchesInLayout, FailsToPatch};
 ghost use Rattle.jptr_tasks.specs.PrivateResults.{Remakes, FailsToApply, AppliesInLayout, IsAppliedTo, IsRelayoutFault};
@@ -17,14 +17,14 @@ use jsonptr::Fault;
 use jsonptr_edit_in_text::stays_one_line;
 use jsonptr_in_text::Scratch;
 use jsonptr_patch::{Comparison, Operation, apply_naming_pointer};
-use jsonptr_relayout::{Relaid, RelayoutError, relayout_with_texts};
+use jsonptr_relayout::{Buffers, Relaid, RelayoutError, relayout_with_texts};
 use jsonptr_text_value::{FailedPatch, PlainPatch};
 use jsonptr_value::discard;
 use serde_json::Value;
 use std::alloc::Global;
 
-/// The number of operations above which a patch is long: [`patch`](crate::patch::patch) reads the whole
-/// text for each operation.
+/// The number of operations above which a patch is long: [`edit_text`](jsonptr_text_edit::edit_text) reads
+/// the whole text for each operation.
 pub const MOST_IN_TEXT: usize = 16;
 
 /// Returns whether the patch of these operations is long, so that [`patch_in_layout`] is for it.
@@ -46,7 +46,7 @@ pub fn is_long(operations: &Vec<Operation>) -> bool
 ///
 /// The operations are applied to the document that the text is, and the new document is laid out as the
 /// text is, as [`relayout_with_texts`] does it. So the time is in proportion to the text and the patch, and
-/// not to their product as for [`patch`](crate::patch::patch), which edits the text once for each
+/// not to their product as for [`edit_text`](jsonptr_text_edit::edit_text), which edits the text once for each
 /// operation. Of the bytes nothing is promised, except that with [`Layout::Kept`] a text of one line
 /// stays one line.
 ///
@@ -55,7 +55,7 @@ pub fn is_long(operations: &Vec<Operation>) -> bool
 ///
 /// # Errors
 ///
-/// Those of [`result_in_text`](crate::result::result_in_text) for `Task::Patch`, with the patch document.
+/// Those of [`result_in_text`](crate::result::result_in_text) for `Task::Edit` of a patch, and [`TaskError::NotPatch`] never: the patch document is one.
 /// [`TaskError::NotInPlace`] says that no text in the layout of the old one is found.
 ///
 /// # Examples
@@ -181,7 +181,8 @@ fn relaid(alloc: Global, text: &str, document: Value, given: &str) -> Result<Rel
     ensures reads { IfOk result (λ new. ReadsAs (text_of_relaid new) (nodes (view document))) }
     ensures refused { IfErr result (IsRelayoutFault text.now (view document)) }
 {
-    match relayout_with_texts(alloc, text, &document, &[given, text]) {
+    let mut buffers = Buffers::new(alloc);
+    match relayout_with_texts(&mut buffers, text, &document, &[given, text]) {
         Ok(new) => Ok(new),
         Err(error) => {
             // It may nest deep.

@@ -10,7 +10,7 @@ ghost use Rattle.jptr_tasks.specs.PrivateNodes.{ListsRest};
 use crate::task_error::TaskError;
 use json::{Reader, Scratch, Token};
 use jsonptr::Pointer;
-use jsonptr_edit_in_text::locate_in_text;
+use jsonptr_edit_in_text::{Buffers, locate};
 use jsonptr_in_text::resolve_in_text;
 use jsonptr_json_search::skip::skip;
 use jsonptr_patch::{Comparison, is_equal};
@@ -96,7 +96,8 @@ pub fn keys_in_text(
     ensures found { IfOk result (HasKeysAt text.now (tokens pointer.entry)) }
     ensures refused { IfErr result (FailsToListKeys text.now (tokens pointer.entry)) }
 {
-    let located = locate_in_text(alloc, text, pointer)?;
+    let mut buffers = Buffers::new(alloc);
+    let located = locate(&mut buffers, text, pointer)?;
     match if_json(keys_of(alloc, located.value))? {
         Some(keys) => Ok(keys),
         None => Err(TaskError::NotLocated),

@@ -3,30 +3,27 @@ ghost use Rattle.std.specs.Prelude.{IfOk, IfErr, string_bytes};
 ghost use Rattle.jsonptr.specs.Pointer.{tokens};
 ghost use Rattle.jptr_tasks.specs.Results.{Yields, Fails, Gets, FailsToGet};
 
-use crate::edit::{delete, set};
+use crate::edit::edit;
 use crate::layout::{Layout, lay_out, show};
-use crate::patch::patch;
 use crate::task::Task;
 use crate::task_error::TaskError;
 use jsonptr::Pointer;
-use jsonptr_edit_in_text::{Buffers, LocateError, locate_in_text_with};
+use jsonptr_edit_in_text::{Buffers, LocateError, locate};
 use serde_json::Value;
 use std::alloc::Global;
 
 /// Returns the text that the task makes of the text of a document.
 ///
-/// [`Task::Get`] returns the text of its value as it is written, and reads no document. [`Task::Set`],
-/// [`Task::Delete`] and [`Task::Patch`] edit the text in place, as `assign_in_place` and the like of
-/// `jsonptr_edit_in_text` do: only the bytes of the edit change, and a text of one line stays one line.
-/// In another layout the new text is laid out as [`Layout`] says.
+/// [`Task::Get`] returns the text of its value as it is written, and reads no document. [`Task::Edit`] makes
+/// its edit in place, as [`edit_text`](jsonptr_text_edit::edit_text) does: only the bytes of the edit change,
+/// and a text of one line stays one line. In another layout the new text is laid out as [`Layout`] says.
 ///
 /// # Errors
 ///
 /// - [`TaskError::NotJson`] if the text is not JSON.
-/// - [`TaskError::Resolve`], [`TaskError::Assign`] and [`TaskError::NotThere`] if the pointer does not
-///   apply.
-/// - [`TaskError::NotPatch`] if the patch document is not a patch, and [`TaskError::PatchFailed`] if an
-///   operation fails.
+/// - [`TaskError::Resolve`], [`TaskError::Assign`], [`TaskError::NotThere`] and [`TaskError::NotRenamed`] if
+///   the pointer does not apply.
+/// - [`TaskError::PatchFailed`] if an operation of the patch fails.
 /// - [`TaskError::TooDeep`] if the new document nests deeper than 127.
 /// - [`TaskError::NotInPlace`] if the edit is possible, but not in place. In a layout other than
 ///   [`Layout::Kept`] that is not an error.
@@ -37,7 +34,7 @@ use std::alloc::Global;
 /// # Examples
 ///
 /// ```rust
-/// let task = Task::Set(Pointer::parse("/b")?, RawValue::parse(alloc, "2")?);
+/// let task = Task::Edit(Edit::Assign(Pointer::parse("/b")?, RawValue::parse(alloc, "2")?));
 /// let new = result_in_text(alloc, "{\"a\": 1, \"b\": 1}", &task, Layout::Kept)?;
 /// assert_eq!(rt; new.as_str(), "{\"a\": 1, \"b\": 2}");
 /// let get = Task::Get(Pointer::parse("/c")?, Some(Value::Null));
@@ -95,9 +92,7 @@ pub fn result_in_text_with(
             };
             get(alloc, buffers, lookup, fallback, layout)
         }
-        Task::Set(pointer, raw) => set(buffers, text, *pointer, raw, layout),
-        Task::Delete(pointer) => delete(alloc, buffers, text, *pointer, layout),
-        Task::Patch(changes) => patch(alloc, buffers, text, changes, layout),
+        Task::Edit(changes) => edit(buffers, text, changes, layout),
     }
 }
 
@@ -126,7 +121,7 @@ fn get(
     ensures refused { IfErr result
         (FailsToGet lookup.entry.text.now (tokens lookup.entry.pointer) fallback.now) }
 {
-    match locate_in_text_with(alloc, buffers, lookup.text, lookup.pointer) {
+    match locate(buffers, lookup.text, lookup.pointer) {
         Ok(located) => lay_out(alloc, &mut buffers.old, located.value, layout),
         Err(LocateError::NotLocated) => Err(TaskError::NotLocated),
         Err(LocateError::Resolve(error)) => match fallback {

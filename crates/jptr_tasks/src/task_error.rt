@@ -1,11 +1,11 @@
 //! The errors of a command, and its exit status.
 ghost use Rattle.std.specs.Prelude.{◌≡◌};
-ghost use Rattle.jptr_tasks.specs.Failures.{of_read_error, of_in_text_error, of_locate_error, of_assign_error, of_patch_error, of_patch_text_error, of_in_place_assign_error, of_in_place_delete_error, of_build_error, of_input_error, of_relayout_error, status_of_task, status_of_line};
+ghost use Rattle.jptr_tasks.specs.Failures.{of_read_error, of_in_text_error, of_locate_error, of_edit_error, of_patch_text_error, of_build_error, of_input_error, of_relayout_error, status_of_task, status_of_rename, status_of_line};
 ghost use Rattle.jptr_tasks.specs.declared.task_error.TaskError.TheVariants.{Memory, Write};
 
 use crate::exit_status::{BAD_INPUT, FILE, MEMORY, NO, NOT_MADE};
 use jsonptr::{assign, resolve};
-use jsonptr_edit_in_text::{EditError, InPlaceError, LocateError};
+use jsonptr_edit_in_text::LocateError;
 use jsonptr_in_text::InTextError;
 use jsonptr_io::input::InputError;
 use jsonptr_io::write::WriteError;
@@ -13,6 +13,7 @@ use jsonptr_patch::FailedOperation;
 use jsonptr_patch_document::PatchDocumentError;
 use jsonptr_paths::build::{BuildError, LineError};
 use jsonptr_relayout::RelayoutError;
+use jsonptr_text_edit::{EditError, RenameError};
 use jsonptr_text_value::PatchTextError;
 use jsonptr_value::{MAX_DEPTH, ReadError};
 use std::alloc::AllocError;
@@ -33,6 +34,9 @@ pub enum TaskError {
     /// The pointer of the value to delete does not resolve.
     #[error("delete failed: json pointer does not resolve")]
     NotThere,
+    /// The value that the pointer resolves to cannot get the key. It is also the error if there is no value.
+    #[error(transparent)]
+    NotRenamed(RenameError),
     /// An operation of the patch fails. The pointer at fault comes with the error.
     #[error(transparent)]
     PatchFailed(FailedOperation),
@@ -79,6 +83,7 @@ impl TaskError {
     {
         match self {
             TaskError::Resolve(_) | TaskError::NotThere | TaskError::PatchFailed(_) => NO,
+            TaskError::NotRenamed(error) => rename_status(error),
             TaskError::Assign(_)
             | TaskError::TooDeep
             | TaskError::NotInPlace
@@ -90,6 +95,16 @@ impl TaskError {
             TaskError::Memory(_) => MEMORY,
             TaskError::Read | TaskError::Write => FILE,
         }
+    }
+}
+
+/// Returns the exit status for a member that gets no other key.
+fn rename_status(error: &RenameError) -> u8
+    ensures { result ≡ status_of_rename error.now }
+{
+    match error {
+        RenameError::NotThere => NO,
+        RenameError::NotAMember | RenameError::KeyTaken => NOT_MADE,
     }
 }
 
@@ -177,26 +192,16 @@ impl From<InTextError> for TaskError {
     }
 }
 
-impl From<EditError<assign::Error>> for TaskError {
-    ghost from_gives = { λ error task_error. task_error ≡ of_assign_error error };
+impl From<EditError> for TaskError {
+    ghost from_gives = { λ error task_error. task_error ≡ of_edit_error error };
 
-    fn from(error: EditError<assign::Error>) -> TaskError {
+    fn from(error: EditError) -> TaskError {
         match error {
             EditError::NotJson => TaskError::NotJson,
-            EditError::Refused(error) => TaskError::Assign(error),
-            EditError::TooDeep => TaskError::TooDeep,
-            EditError::Memory(error) => TaskError::Memory(error),
-        }
-    }
-}
-
-impl From<EditError<FailedOperation>> for TaskError {
-    ghost from_gives = { λ error task_error. task_error ≡ of_patch_error error };
-
-    fn from(error: EditError<FailedOperation>) -> TaskError {
-        match error {
-            EditError::NotJson => TaskError::NotJson,
-            EditError::Refused(error) => TaskError::PatchFailed(error),
+            EditError::Assign(error) => TaskError::Assign(error),
+            EditError::NotThere => TaskError::NotThere,
+            EditError::Rename(error) => TaskError::NotRenamed(error),
+            EditError::Patch(error) => TaskError::PatchFailed(error),
             EditError::TooDeep => TaskError::TooDeep,
             EditError::Memory(error) => TaskError::Memory(error),
         }
@@ -212,28 +217,6 @@ impl From<PatchTextError> for TaskError {
             PatchTextError::NotLocated => TaskError::NotLocated,
             PatchTextError::TooDeep => TaskError::PatchTooDeep,
             PatchTextError::Memory(error) => TaskError::Memory(error),
-        }
-    }
-}
-
-impl From<InPlaceError<EditError<assign::Error>>> for TaskError {
-    ghost from_gives = { λ error task_error. task_error ≡ of_in_place_assign_error error };
-
-    fn from(error: InPlaceError<EditError<assign::Error>>) -> TaskError {
-        match error {
-            InPlaceError::NotInPlace => TaskError::NotInPlace,
-            InPlaceError::Edit(error) => TaskError::from(error),
-        }
-    }
-}
-
-impl From<InPlaceError<ReadError>> for TaskError {
-    ghost from_gives = { λ error task_error. task_error ≡ of_in_place_delete_error error };
-
-    fn from(error: InPlaceError<ReadError>) -> TaskError {
-        match error {
-            InPlaceError::NotInPlace => TaskError::NotInPlace,
-            InPlaceError::Edit(error) => TaskError::from(error),
         }
     }
 }

@@ -11,10 +11,8 @@ ghost use Rattle.jptr_tasks.specs.declared.task_error.TaskError.TheVariants.{Not
 ghost use Rattle.jptr_tasks.specs.declared.layout.Layout.{Layout};
 ghost use Rattle.jptr_tasks.specs.declared.task.Task.{Task};
 
-use jsonptr_laws::assign::assign_law;
 use jsonptr_laws::resolve::resolve_law;
-use jsonptr_patch::laws::patch::comparing_patch_law;
-use jsonptr_patch_document::laws::patch_document_law;
+use jsonptr_text_edit::laws::edit_law;
 
 /// States that a task has at most one error on a text, with all its fields. So an operation of a patch that
 /// fails has at most one pointer at fault.
@@ -26,8 +24,7 @@ use jsonptr_patch_document::laws::patch_document_law;
 /// [`Layout::Kept`](crate::layout::Layout::Kept), and
 /// [`TaskError::NotLocated`](crate::task_error::TaskError::NotLocated).
 ///
-/// The value of a [`Task::Set`](crate::task::Task::Set) and the patch document have sorted keys, as
-/// each value that is read has.
+/// The values of a patch have sorted keys, as those of each patch that is read.
 pub fn one_error_law()
     ensures text { (task : Task) (layout : Layout) (text : Text) (e f : TaskError)
         → TaskHasSortedKeys task → (StopsRun e → ⊥) → (StopsRun f → ⊥)
@@ -44,8 +41,6 @@ pub fn one_error_law()
         → IsLineFault task layout l e → IsLineFault task layout l f
         → (e ≡ f) ⊎ ((e ≡ NotLocated) ⊎ (f ≡ NotLocated)) }
 {
-    patch_document_law();
-    comparing_patch_law();
-    assign_law();
+    edit_law();
     resolve_law();
 }
