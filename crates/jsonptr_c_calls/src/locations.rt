@@ -8,7 +8,7 @@ use crate::buffer::copy_to;
 use crate::call_error::{Argument, CallError};
 use crate::pointers::{parse, text_of};
 use crate::read::stop;
-use jsonptr_edit_in_text::{LocateError, locate_in_text};
+use jsonptr_edit_in_text::{Buffers, LocateError};
 use std::alloc::Global;
 
 /// The bytes of a value in a JSON text.
@@ -46,7 +46,8 @@ pub fn locate(alloc: Global, text: &[u8], pointer: &[u8]) -> Result<TextSpan, Ca
 {
     let pointer = parse(pointer)?;
     let text = text_of(Argument::Text, text)?;
-    match locate_in_text(alloc, text, pointer) {
+    let mut buffers = Buffers::new(alloc);
+    match jsonptr_edit_in_text::locate(&mut buffers, text, pointer) {
         Ok(located) => Ok(TextSpan {
             start: located.before.len(),
             end: text.len() - located.after.len(),
@@ -90,7 +91,8 @@ pub fn pointer_at(
     ensures output_unchanged { OnErr result (out.new ≡ out.old) }
 {
     let text = text_of(Argument::Text, text)?;
-    match jsonptr_edit_in_text::pointer_at(alloc, text, offset) {
+    let mut buffers = Buffers::new(alloc);
+    match jsonptr_edit_in_text::pointer_at(&mut buffers, text, offset) {
         Ok(Some(found)) => copy_to(found.pointer.as_ptr().as_str().as_bytes(), out),
         Ok(None) => Err(CallError::NoValue { offset }),
         Err(error) => Err(location_error(alloc, text, error)),
