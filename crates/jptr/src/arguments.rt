@@ -599,7 +599,7 @@ fn files() -> Argument {
 /// Returns the argument for the value.
 fn value() -> Argument {
     let help =
-        "The value, or @FILE for that of a file, @- of standard input; for TOML a TOML value, which is printed anew";
+        "The value, or @FILE for that of a file, @- of standard input; for TOML a TOML value";
     required("JSON", help).taking(Dashed::Numbers)
 }
 

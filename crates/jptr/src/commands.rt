@@ -28,6 +28,7 @@ use jptr_tasks::layout::{Layout, show};
 use jptr_tasks::long_patch::is_long;
 use jptr_tasks::task::Task;
 use jsonptr::{Pointer, Token};
+use jsonptr_text_edit::Edit;
 use serde_json::Value;
 use std::alloc::{AllocError, Global};
 use std::borrow::CowStr;
@@ -143,7 +144,7 @@ fn delete(rt: &HostRuntime, matches: &ArgMatches<'_>) -> Result<u8, ProgramError
     if FileFormat::of(matches) == FileFormat::Toml {
         return toml_file::delete(rt, matches, pointer);
     }
-    run_task(rt, matches, Task::Delete(pointer))
+    run_task(rt, matches, Task::Edit(Edit::Delete(pointer)))
 }
 
 /// Applies a patch document.
@@ -169,7 +170,7 @@ fn patch(rt: &HostRuntime, matches: &ArgMatches<'_>) -> Result<u8, ProgramError>
     if is_long(&patch.patch.operations) && !matches.get_flag("lines") {
         return patch_long(rt, matches, patch);
     }
-    run_task(rt, matches, Task::Patch(patch.into_raw(alloc)?))
+    run_task(rt, matches, Task::Edit(Edit::Patch(patch.into_raw(alloc)?)))
 }
 
 /// Lays a document out anew.

@@ -6,11 +6,12 @@ use crate::style::OutputStyle;
 use clap::ArgMatches;
 use jptr_tasks::exit_status::BAD_INPUT;
 use jptr_tasks::layout::Layout;
+use jptr_tasks::reprint::DigitLoss;
 use jptr_tasks::result::result_in_text;
 use jptr_tasks::task::Task;
 use jptr_tasks::task_error::TaskError;
-use jsonptr_edit_in_text::RawOperation;
 use jsonptr_numbers::{Lost, find_lost};
+use jsonptr_text_edit::{Edit, RawOperation};
 use simdutf8::basic::from_utf8;
 use std::alloc::{AllocError, Global};
 use thiserror::Error;
@@ -55,6 +56,15 @@ pub enum LossError {
 }
 
 impl LossError {
+    /// Returns the loss of an edit.
+    pub fn of(loss: DigitLoss) -> LossError {
+        match loss {
+            DigitLoss::Document(lost) => LossError::Document(lost),
+            DigitLoss::Value(lost) => LossError::Value(lost),
+            DigitLoss::Operation(index, lost) => LossError::Operation(index, lost),
+        }
+    }
+
     /// Returns the name of the argument with the number, if it is in one.
     fn argument(&self) -> Option<&'static str> {
         match self {
@@ -74,7 +84,7 @@ impl LossError {
     }
 
     /// Returns the error of the number in the input with this name, if it is in no argument.
-    fn error(&self, alloc: Global, name: &str) -> ProgramError {
+    pub fn error(&self, alloc: Global, name: &str) -> ProgramError {
         let message = match self.to_string(alloc) {
             Ok(text) => shown(alloc, text.as_str()),
             Err(error) => Err(error),
@@ -84,19 +94,20 @@ impl LossError {
     }
 }
 
-/// Returns whether the result of the task may have numbers that are read, and may not lose digits.
+/// Returns whether the result of the task on a line, or of one that finds a value, may have numbers that are read,
+/// and may not lose digits.
 ///
-/// They are read to sort the members, and where an edit cannot be made in the text, which is known to
-/// happen with patches alone.
+/// They are read to sort the members, and where an edit of a line cannot be made in its text, which is known to
+/// happen with patches alone. For an edit of one document [`edit_exactly`](jptr_tasks::reprint::edit_exactly)
+/// looks at what is printed.
 pub fn is_checked(task: &Task<'_>, style: OutputStyle) -> bool {
     if style.is_lossy {
         return false;
     }
     match style.layout {
         Layout::Sorted | Layout::SortedPretty => true,
-        Layout::Compact | Layout::Pretty => matches!(task, Task::Patch(_)),
-        Layout::Kept => style.reformats && !matches!(task, Task::Get(_, _)),
-        Layout::Raw => false,
+        Layout::Compact | Layout::Pretty => matches!(task, Task::Edit(Edit::Patch(_))),
+        Layout::Kept | Layout::Raw => false,
     }
 }
 
@@ -131,12 +142,12 @@ pub fn loss_of(
 /// document, if there is one.
 fn loss_in_values(alloc: Global, task: &Task<'_>) -> Result<Option<LossError>, AllocError> {
     match task {
-        Task::Set(_, raw) => match find_lost(alloc, raw.printed.flat.as_str())? {
+        Task::Edit(Edit::Assign(_, raw)) => match find_lost(alloc, raw.printed.flat.as_str())? {
             Some(lost) => Ok(Some(LossError::Value(lost))),
             None => Ok(None),
         },
-        Task::Patch(patch) => loss_in_operations(alloc, patch.operations.as_slice()),
-        Task::Get(_, _) | Task::Delete(_) => Ok(None),
+        Task::Edit(Edit::Patch(patch)) => { loss_in_operations(alloc, patch.operations.as_slice()) }
+        Task::Get(_, _) | Task::Edit(Edit::Delete(_)) | Task::Edit(Edit::Rename(_, _)) => Ok(None),
     }
 }
 

@@ -13,6 +13,7 @@ use jsonptr_in_text::{InTextError, resolve_in_text};
 use jsonptr_patch::{
     Comparison, FailedOperation, Operation, PatchError, PatchPointer, apply_comparing,
 };
+use jsonptr_text_edit::Edit;
 use jsonptr_value::if_json;
 use serde_json::Value;
 use simdutf8::basic::from_utf8;
@@ -29,8 +30,12 @@ pub fn fault_of_task(
     error: &TaskError,
 ) -> Result<Option<String>, AllocError> {
     match (task, error) {
-        (Task::Delete(pointer), TaskError::NotThere) => missing(alloc, bytes, *pointer),
-        (Task::Patch(patch), error) => fault_of_patch(alloc, bytes, &patch.document, error),
+        (Task::Edit(Edit::Delete(pointer)), TaskError::NotThere) => {
+            missing(alloc, bytes, *pointer)
+        }
+        (Task::Edit(Edit::Patch(patch)), error) => {
+            fault_of_patch(alloc, bytes, &patch.document, error)
+        }
         _ => Ok(None),
     }
 }

@@ -10,6 +10,7 @@ use jptr_tasks::task::Task;
 use jptr_tasks::task_error::TaskError;
 use jsonptr::Pointer;
 use jsonptr_in_toml::{InTomlError, resolve_in_toml};
+use jsonptr_text_edit::Edit;
 use std::alloc::Global;
 use toml::Value;
 
@@ -29,7 +30,7 @@ pub fn check_expansion(
     text: &str,
     task: &Task<'_>,
 ) -> Result<(), ProgramError> {
-    let Task::Set(pointer, _) = task else {
+    let Task::Edit(Edit::Assign(pointer, _)) = task else {
         return Ok(());
     };
     match scalar_above(alloc, text, *pointer) {

@@ -55,8 +55,7 @@ pub fn about_of(name: &str) -> &'static str {
             "Prints the document with the value inserted before the element at the pointer, or added as a member",
         "move" => "Prints the document with a value moved to another pointer",
         "copy" => "Prints the document with a copy of a value at another pointer",
-        "rename" =>
-            "Prints the document with another key for the member at the pointer, which then comes last",
+        "rename" => "Prints the document with another key for the member at the pointer",
         "patch" =>
             "Prints the document after a JSON Patch (RFC 6902); errors count its operations from 0",
         "diff" =>

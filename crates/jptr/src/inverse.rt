@@ -12,6 +12,7 @@ use jptr_tasks::exit_status::USAGE;
 use jptr_tasks::inverse::inverse_of;
 use jptr_tasks::task::Task;
 use jptr_tasks::task_error::TaskError;
+use jsonptr_text_edit::Edit;
 use jsonptr_text_value::PatchText;
 use std::alloc::Global;
 use std::fs;
@@ -87,7 +88,7 @@ fn texts_of(
 ) -> Result<Texts, ProgramError> {
     let undo = undo_text(alloc, &patching, source)?;
     let style = patching.style;
-    let task = Task::Patch(patching.patch);
+    let task = Task::Edit(Edit::Patch(patching.patch));
     let new = source_result(alloc, source, &task, style)?;
     Ok(Texts { new, undo })
 }

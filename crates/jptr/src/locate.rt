@@ -10,7 +10,7 @@ use clap::ArgMatches;
 use jptr_tasks::exit_status::{NO, USAGE};
 use jptr_tasks::task_error::TaskError;
 use jsonptr::Pointer;
-use jsonptr_edit_in_text::{LocateError, PointerAt, locate_in_text, pointer_at};
+use jsonptr_text_edit::{Buffers, LocateError, PointerAt, pointer_at};
 use std::alloc::{AllocError, Global};
 
 /// Prints where the value is that the pointer resolves to, or the pointer of the value at a position.
@@ -46,7 +46,8 @@ fn print_position(
     let pointer = pointer_of(alloc, pointer)?;
     check_json(alloc, "locate", file)?;
     let source = Source::read_as(rt, FileFormat::of_file(matches, file), file)?;
-    match locate_in_text(alloc, source.text(alloc)?, pointer) {
+    let mut buffers = Buffers::new(alloc);
+    match jsonptr_text_edit::locate(&mut buffers, source.text(alloc)?, pointer) {
         Ok(located) => {
             let line = position_line(alloc, file, Position::after(located.before))?;
             print_line(rt, line.as_str())
@@ -71,7 +72,8 @@ fn print_pointer(
     let text = source.text(alloc)?;
     // No value is after the end, but the text is read.
     let offset = position.offset_in(text).unwrap_or(text.len());
-    match pointer_at(alloc, text, offset) {
+    let mut buffers = Buffers::new(alloc);
+    match pointer_at(&mut buffers, text, offset) {
         Ok(Some(PointerAt { pointer, .. })) => print_line(rt, pointer.as_ptr().as_str()),
         Ok(None) => Err(nothing_at(alloc, &source, argument)),
         Err(error) => Err(locate_error(alloc, &source, Pointer::root(), error)),

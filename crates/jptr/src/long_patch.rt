@@ -11,6 +11,7 @@ use jptr_tasks::long_patch::patch_in_layout;
 use jptr_tasks::task::Task;
 use jptr_tasks::task_error::TaskError;
 use jsonptr_numbers::find_lost;
+use jsonptr_text_edit::Edit;
 use jsonptr_text_value::{FailedPatch, PatchText};
 use serde_json::Value;
 use simdutf8::basic::from_utf8;
@@ -119,7 +120,7 @@ fn one_by_one(
     style: OutputStyle,
     is_check: bool,
 ) -> Result<u8, ProgramError> {
-    let task = Task::Patch(patch);
+    let task = Task::Edit(Edit::Patch(patch));
     if is_check {
         checked(rt.alloc(), source, &task)
     } else {

@@ -12,14 +12,12 @@ use jptr_tasks::layout::Layout;
 use jptr_tasks::node::{length_in_text, type_in_text};
 use jptr_tasks::task::Task;
 use jptr_tasks::task_error::TaskError;
-use jsonptr::{Pointer, PointerBuf, Token};
-use jsonptr_edit_in_text::RawValue;
+use jsonptr::{Pointer, Token};
 use jsonptr_in_text::exists_in_text;
 use jsonptr_patch::{FailedOperation, Operation, PatchError, PatchPointer, is_proper_prefix};
-use jsonptr_text_value::PatchText;
+use jsonptr_text_edit::{Edit, PatchText, RawValue, RenameError};
 use jsonptr_value::{NodeType, if_json};
 use std::alloc::{AllocError, Global};
-use std::borrow::CowStr;
 
 /// Why a value is not moved.
 const INTO_SELF: &str = "FROM is a proper prefix of it";
@@ -55,12 +53,16 @@ pub fn insert(rt: &HostRuntime, matches: &ArgMatches<'_>) -> Result<u8, ProgramE
     let path = pointer_of(alloc, argument(matches, "POINTER"))?;
     let value = ValueArgument::read(rt, matches, argument(matches, "JSON"))?.raw(alloc)?;
     if matches.get_flag("lines") {
-        return run_task(rt, matches, Task::Patch(addition(alloc, path, value)?));
+        return run_task(
+            rt,
+            matches,
+            Task::Edit(Edit::Patch(addition(alloc, path, value)?)),
+        );
     }
     let source = Source::open(rt, matches)?;
     let style = style_of(alloc, matches)?;
     let operation = SingleOperation {
-        task: Task::Patch(addition(alloc, path, value)?),
+        task: Task::Edit(Edit::Patch(addition(alloc, path, value)?)),
         from: None,
         path,
     };
@@ -120,7 +122,7 @@ fn transfer_of<'a>(
     };
     let patch = PatchText::from_operations(alloc, vec![in alloc; operation]?)?;
     Ok(SingleOperation {
-        task: Task::Patch(patch),
+        task: Task::Edit(Edit::Patch(patch)),
         from: Some(from),
         path,
     })
@@ -130,15 +132,47 @@ fn transfer_of<'a>(
 pub fn rename(rt: &HostRuntime, matches: &ArgMatches<'_>) -> Result<u8, ProgramError> {
     let alloc = rt.alloc();
     check_json(alloc, "rename", matches.get_str("FILE"))?;
-    let from = pointer_of(alloc, argument(matches, "POINTER"))?;
-    let Some(parent) = from.parent() else {
+    let pointer = pointer_of(alloc, argument(matches, "POINTER"))?;
+    if pointer.is_root() {
         return Err(ProgramError::new(alloc, USAGE, "POINTER", "the root has no key"));
-    };
-    let path = member_of(alloc, parent, argument(matches, "KEY"))?;
+    }
     let source = Source::open(rt, matches)?;
-    check_member(alloc, &source, from, parent, &path)?;
-    let operation = transfer_of(alloc, "move", from, path.as_ptr())?;
-    put_moved(rt, matches, &source, operation)
+    let task = Task::Edit(Edit::Rename(pointer, argument(matches, "KEY")));
+    match tried(alloc, &source, &task, style_of(alloc, matches)?)? {
+        Ok(new) => {
+            source.put(rt, new.as_str())?;
+            Ok(0)
+        }
+        Err(TaskError::NotRenamed(error)) => Err(not_renamed(alloc, &source, pointer, error)?),
+        Err(error) => Err(source.error(alloc, pointer.as_str(), error)),
+    }
+}
+
+/// Returns why the member gets no other key.
+fn not_renamed(
+    alloc: Global,
+    source: &Source<'_>,
+    pointer: Pointer<'_>,
+    error: RenameError,
+) -> Result<ProgramError, ProgramError> {
+    let message = match error {
+        RenameError::NotThere => return missing(alloc, source, pointer),
+        RenameError::NotAMember => "not a member of an object",
+        RenameError::KeyTaken => "there is a member with this key",
+    };
+    Ok(ProgramError::new(alloc, NOT_MADE, source.name, message))
+}
+
+/// Returns the error of a pointer that resolves to nothing.
+fn missing(
+    alloc: Global,
+    source: &Source<'_>,
+    pointer: Pointer<'_>,
+) -> Result<ProgramError, ProgramError> {
+    match type_in_text(alloc, source.text(alloc)?, pointer) {
+        Ok(_) => Ok(source.error(alloc, pointer.as_str(), TaskError::NotThere)),
+        Err(error) => Ok(source.error(alloc, pointer.as_str(), error)),
+    }
 }
 
 /// Prints the document after a move, or replaces the text of the file by it.
@@ -160,7 +194,7 @@ fn put_moved(
     if let Some(patch) = other {
         // A move that is made loses no comment.
         if !source.has_comments() || is_made(rt.alloc(), source, &operation, style)? {
-            operation.task = Task::Patch(patch);
+            operation.task = Task::Edit(Edit::Patch(patch));
         }
     }
     put(rt, source, &operation, style)
@@ -265,47 +299,6 @@ fn is_alone(
     }
     let node_type = type_in_text(alloc, text, parent)?;
     Ok(matches!(node_type, NodeType::Object) || token.encoded() == "-")
-}
-
-/// Returns the pointer of the member with this key.
-fn member_of(alloc: Global, parent: Pointer<'_>, key: &str) -> Result<PointerBuf, AllocError> {
-    let mut path = parent.to_buf(alloc)?;
-    path.push_back(Token::new(alloc, CowStr::Borrowed(key))?)?;
-    Ok(path)
-}
-
-/// Fails if the parent is not an object, lacks the member, or has one with the new pointer.
-fn check_member(
-    alloc: Global,
-    source: &Source<'_>,
-    from: Pointer<'_>,
-    parent: Pointer<'_>,
-    path: &PointerBuf,
-) -> Result<(), ProgramError> {
-    let text = source.text(alloc)?;
-    match type_in_text(alloc, text, parent) {
-        Ok(NodeType::Object) => {}
-        Ok(_) => return Err(ProgramError::new(
-            alloc,
-            NOT_MADE,
-            source.name,
-            "not a member of an object",
-        )),
-        Err(error) => return Err(source.error(alloc, parent.as_str(), error)),
-    }
-    if let Err(error) = type_in_text(alloc, text, from) {
-        return Err(source.error(alloc, from.as_str(), error));
-    }
-    match exists_in_text(alloc, text, path.as_ptr()) {
-        Ok(false) => Ok(()),
-        Ok(true) => Err(ProgramError::new(
-            alloc,
-            NOT_MADE,
-            source.name,
-            "there is a member with this key",
-        )),
-        Err(error) => Err(source.error(alloc, path.as_ptr().as_str(), TaskError::from(error))),
-    }
 }
 
 /// Runs the operation on the document, or on each line.

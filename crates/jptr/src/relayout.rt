@@ -7,7 +7,7 @@ use crate::program_error::ProgramError;
 use crate::source::Source;
 use clap::ArgMatches;
 use jptr_tasks::exit_status::{NOT_MADE, USAGE};
-use jsonptr_relayout::{Relaid, RelayoutTextError, relayout_text};
+use jsonptr_relayout::{Buffers, Relaid, RelayoutTextError, relayout_text};
 use std::alloc::Global;
 
 /// Why a document is not printed.
@@ -44,7 +44,8 @@ fn relaid(
 ) -> Result<String, ProgramError> {
     let old_text = old.text(alloc)?;
     let new_text = new.text(alloc)?;
-    let text = match relayout_text(alloc, old_text, new_text) {
+    let mut buffers = Buffers::new(alloc);
+    let text = match relayout_text(&mut buffers, old_text, new_text) {
         Ok(Relaid::Kept(text)) => text,
         Ok(Relaid::Rewritten(text)) => {
             if !matches.get_flag("reformat") {

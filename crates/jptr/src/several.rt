@@ -7,13 +7,14 @@ use crate::output::print_text;
 use crate::program_error::ProgramError;
 use crate::source::{FileFormat, Source};
 use crate::style::{OutputStyle, style_of};
-use crate::task::{result_of, source_result};
+use crate::task::{laid_out, result_of, source_result};
 use crate::value_argument::{ValueArgument, json_default};
 use clap::ArgMatches;
 use jptr_tasks::exit_status::USAGE;
 use jptr_tasks::layout::Layout;
 use jptr_tasks::task::Task;
 use jsonptr::Pointer;
+use jsonptr_text_edit::Edit;
 use std::alloc::{AllocError, Global};
 
 /// Returns the task of finding the value at the pointer with this text.
@@ -35,7 +36,7 @@ pub fn set_task<'a>(
 ) -> Result<Task<'a>, ProgramError> {
     let pointer = pointer_of(rt.alloc(), pointer)?;
     let value = ValueArgument::read(rt, matches, value)?.raw(rt.alloc())?;
-    Ok(Task::Set(pointer, value))
+    Ok(Task::Edit(Edit::Assign(pointer, value)))
 }
 
 /// Prints the value that each pointer resolves to, each on its own or all as one object.
@@ -136,9 +137,10 @@ pub fn delete_each(
     let alloc = rt.alloc();
     check_several(alloc, matches)?;
     let mut tasks = Vec::new(alloc);
-    tasks.push(Task::Delete(pointer_of(alloc, argument(matches, "POINTER"))?))?;
+    let pointer = pointer_of(alloc, argument(matches, "POINTER"))?;
+    tasks.push(Task::Edit(Edit::Delete(pointer)))?;
     for text in more {
-        tasks.push(Task::Delete(pointer_of(alloc, *text)?))?;
+        tasks.push(Task::Edit(Edit::Delete(pointer_of(alloc, *text)?)))?;
     }
     edit_each(rt, matches, tasks.as_slice())
 }
@@ -197,20 +199,6 @@ fn edit_each(
     let edited = edited_by_each(alloc, &source, tasks, style, expands)?;
     source.put(rt, laid_out(alloc, source.name, edited, style)?.as_str())?;
     Ok(0)
-}
-
-/// Returns the text of the document with this name in the layout of the style.
-fn laid_out(
-    alloc: Global,
-    name: &str,
-    text: String,
-    style: OutputStyle,
-) -> Result<String, ProgramError> {
-    if style.layout == Layout::Kept {
-        return Ok(text);
-    }
-    let whole = Task::Get(Pointer::root(), None);
-    result_of(alloc, name, text.as_bytes(), &whole, style)
 }
 
 /// Returns the text of the document after the tasks, one after another. Each is done in the text if that

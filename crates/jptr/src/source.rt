@@ -1,11 +1,10 @@
 //! The document that a command reads: from standard input or a file, which may be changed in place.
 
 use crate::colors::{are_colored, colored_json};
-use crate::comments::{bare, other_layout};
+use crate::comments::{BothTexts, bare, other_layout};
 use crate::drawn::fault_of_patch;
 use crate::in_place::{EditedFile, open_file, replace_text};
 use crate::input::{is_standard, name_of, read_input, text_in, value_in};
-use crate::lost_comment::CommentedText;
 use crate::operands::{check_json, file_of, is_commented_name, is_toml_name};
 use crate::output::print_text;
 use crate::program_error::ProgramError;
@@ -215,10 +214,10 @@ impl<'a> Source<'a> {
     }
 
     /// Returns its texts, if it has comments or trailing commas.
-    pub fn commented_text(&self) -> Option<CommentedText<'_>> {
+    pub fn both_texts(&self) -> Option<BothTexts<'_>> {
         match &self.commented {
-            Some(CommentedSource { whole, bare }) => Some(CommentedText {
-                text: whole.as_str(),
+            Some(CommentedSource { whole, bare }) => Some(BothTexts {
+                whole: whole.as_str(),
                 bare: bare.as_str(),
             }),
             None => None,

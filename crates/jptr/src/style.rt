@@ -6,7 +6,7 @@ use clap::ArgMatches;
 use jptr_tasks::exit_status::USAGE;
 use jptr_tasks::layout::Layout;
 use jptr_tasks::task_error::TaskError;
-use jsonptr_edit_in_text::{Buffers, IndentError, indent_text};
+use jsonptr_text_edit::{Buffers, IndentError, indent_text};
 use std::alloc::Global;
 
 /// The most spaces by which a level can be indented.
@@ -110,7 +110,7 @@ pub fn indented(alloc: Global, printed: String, style: OutputStyle) -> Result<St
         return Ok(printed);
     };
     let mut buffers = Buffers::new(alloc);
-    match indent_text(alloc, &mut buffers, printed.as_str(), indent) {
+    match indent_text(&mut buffers, printed.as_str(), indent) {
         Ok(mut new) => {
             new.push('\n')?;
             Ok(new)

@@ -1,12 +1,11 @@
 //! Running a task: on one document, on each line, or on a file in place.
 
 use crate::colors::are_colored;
-use crate::comments::{edited_with_comments, other_layout};
-use crate::digits::{check_result, is_checked};
+use crate::comments::{other_layout, result_with_comments};
+use crate::digits::{LossError, check_result, is_checked};
 use crate::drawn::fault_of_task;
 use crate::exact_lines::{ExactTask, run_exact_lines};
 use crate::input::{name_of, open};
-use crate::lost_comment::not_in_place;
 use crate::operands::file_of;
 use crate::output::{Output, print_text};
 use crate::program_error::ProgramError;
@@ -19,8 +18,12 @@ use jptr_tasks::exit_status::{BAD_LINE, USAGE};
 use jptr_tasks::layout::{Layout, show};
 use jptr_tasks::line::LineTask;
 use jptr_tasks::lines::Ended;
+use jptr_tasks::reprint::{ExactError, edit_exactly};
 use jptr_tasks::task::Task;
 use jptr_tasks::task_error::TaskError;
+use jsonptr::Pointer;
+use jsonptr_text_edit::{Buffers, Edit, Edited, edit_text};
+use simdutf8::basic::from_utf8;
 use std::alloc::Global;
 use std::io::{BufReader, BufWriter, IsTerminal};
 
@@ -62,7 +65,13 @@ fn is_read_first(matches: &ArgMatches<'_>, task: &Task<'_>, style: OutputStyle) 
     matches.get_flag("in-place")
         || FileFormat::of(matches) == FileFormat::Commented
         || style.indent.is_some()
-        || (style.layout != Layout::Kept && is_checked(task, style))
+        || may_print(task, style)
+        || is_checked(task, style)
+}
+
+/// Returns whether the result of the task may be a document that is printed anew.
+fn may_print(task: &Task<'_>, style: OutputStyle) -> bool {
+    matches!(task, Task::Edit(_)) && (style.reformats || style.layout != Layout::Kept)
 }
 
 /// Runs the task on a document that is read, and prints nothing.
@@ -90,11 +99,6 @@ fn on_document(
         Ok(()) => Ok(0),
         Err(TaskError::Read) => Err(input.read_error(alloc, name_of(file))),
         Err(TaskError::Write) => Err(output.error(alloc)),
-        Err(TaskError::NotInPlace) if style.reformats => {
-            let new = result_of(alloc, name_of(file), &bytes, task, style)?;
-            print_text(rt, new.as_str())?;
-            Ok(0)
-        }
         Err(error) => {
             let source = Source::of(alloc, name_of(file), FileFormat::Json, bytes)?;
             if source.has_mark {
@@ -143,34 +147,93 @@ pub fn tried(
     task: &Task<'_>,
     style: OutputStyle,
 ) -> Result<Result<String, TaskError>, ProgramError> {
-    match source.commented_text() {
-        Some(commented) if keeps_comments(source, task, style) => {
+    match source.both_texts() {
+        Some(texts) if keeps_comments(source, task, style) => {
             if style.layout != Layout::Kept {
                 return Err(other_layout(alloc, source.name));
             }
-            match edited_with_comments(alloc, commented.text, commented.bare, task) {
-                Err(TaskError::NotInPlace) => Err(not_in_place(
-                    alloc,
-                    source.name,
-                    task,
-                    commented,
-                    style.reformats,
-                )),
-                result => Ok(result),
+            result_with_comments(alloc, source.name, texts, task, style.reformats)
+        }
+        _ => match task {
+            Task::Edit(edit) if may_print(task, style) => {
+                edited_once(alloc, source.name, source.as_bytes(), edit, style)
             }
-        }
-        _ => {
-            check_result(alloc, source.name, source.as_bytes(), task, style)?;
-            Ok(edited(alloc, source.as_bytes(), task, style))
-        }
+            _ => {
+                check_result(alloc, source.name, source.as_bytes(), task, style)?;
+                Ok(result_in_style(alloc, source.as_bytes(), task, style))
+            }
+        },
     }
+}
+
+/// Returns the document with this name after the edit, which is made once, or the error of the edit. Fails if the
+/// document has to be printed anew and a number would lose digits.
+fn edited_once(
+    alloc: Global,
+    name: &str,
+    bytes: &[u8],
+    edit: &Edit<'_>,
+    style: OutputStyle,
+) -> Result<Result<String, TaskError>, ProgramError> {
+    let Ok(text) = from_utf8(bytes) else {
+        return Ok(Err(TaskError::NotJson));
+    };
+    match edit_in_text(alloc, text, edit, style.is_lossy) {
+        Ok(edited) => Ok(Ok(put_in_style(alloc, name, edited, style)?)),
+        Err(ExactError::Edit(error)) => Ok(Err(TaskError::from(error))),
+        Err(ExactError::Loses(loss)) => Err(LossError::of(loss).error(alloc, name)),
+    }
+}
+
+/// Makes the edit in the text, or in its document. No number may lose digits unless it is lossy.
+fn edit_in_text(
+    alloc: Global,
+    text: &str,
+    edit: &Edit<'_>,
+    is_lossy: bool,
+) -> Result<Edited, ExactError> {
+    let mut buffers = Buffers::new(alloc);
+    if is_lossy {
+        return Ok(edit_text(&mut buffers, text, edit)?);
+    }
+    edit_exactly(&mut buffers, text, edit)
+}
+
+/// Returns the edited document with this name in the layout of the style. One that is printed anew ends in a line
+/// break.
+fn put_in_style(
+    alloc: Global,
+    name: &str,
+    edited: Edited,
+    style: OutputStyle,
+) -> Result<String, ProgramError> {
+    let is_in_place = edited.is_in_place();
+    let mut new = edited.or_reprinted();
+    if !is_in_place {
+        new.push('\n')?;
+    }
+    laid_out(alloc, name, new, style)
+}
+
+/// Returns the text of the document with this name in the layout of the style.
+pub fn laid_out(
+    alloc: Global,
+    name: &str,
+    text: String,
+    style: OutputStyle,
+) -> Result<String, ProgramError> {
+    if style.layout == Layout::Kept {
+        return Ok(text);
+    }
+    let whole = Task::Get(Pointer::root(), None);
+    result_of(alloc, name, text.as_bytes(), &whole, style)
 }
 
 /// Returns whether the result of the task has the comments of the document, or may be a text of it.
 fn keeps_comments(source: &Source<'_>, task: &Task<'_>, style: OutputStyle) -> bool {
     match task {
         Task::Get(_, _) => source.target.is_some() || style.layout == Layout::Kept,
-        Task::Set(_, _) | Task::Delete(_) | Task::Patch(_) => true,
+        Task::Edit(_) => true,
     }
 }
 
@@ -184,27 +247,21 @@ pub fn result_of(
     style: OutputStyle,
 ) -> Result<String, ProgramError> {
     check_result(alloc, name, bytes, task, style)?;
-    match edited(alloc, bytes, task, style) {
+    match result_in_style(alloc, bytes, task, style) {
         Ok(new) => Ok(new),
         Err(error) => Err(task_error(alloc, name, bytes, task, error)),
     }
 }
 
-/// Returns the document after the task, printed anew if that is wanted where it cannot be edited in
-/// place.
-pub fn edited(
+/// Returns the result of the task on the bytes of a document, in the layout of the style.
+fn result_in_style(
     alloc: Global,
     bytes: &[u8],
     task: &Task<'_>,
     style: OutputStyle,
 ) -> Result<String, TaskError> {
-    match document_result(alloc, bytes, task, style.layout) {
-        Ok(new) => indented(alloc, new, style),
-        Err(TaskError::NotInPlace) if style.reformats => {
-            document_result(alloc, bytes, task, Layout::Compact)
-        }
-        Err(error) => Err(error),
-    }
+    let new = document_result(alloc, bytes, task, style.layout)?;
+    indented(alloc, new, style)
 }
 
 /// Returns the error of a task that failed on the bytes of the document with this name, with what is at
@@ -224,9 +281,10 @@ fn task_error(
 fn pointer_text<'t>(task: &'t Task<'_>) -> &'t str {
     match task {
         Task::Get(pointer, _) => pointer.as_str(),
-        Task::Set(pointer, _) => pointer.as_str(),
-        Task::Delete(pointer) => pointer.as_str(),
-        Task::Patch(_) => "",
+        Task::Edit(Edit::Assign(pointer, _)) => pointer.as_str(),
+        Task::Edit(Edit::Delete(pointer)) => pointer.as_str(),
+        Task::Edit(Edit::Rename(pointer, _)) => pointer.as_str(),
+        Task::Edit(Edit::Patch(_)) => "",
     }
 }
 

@@ -13,10 +13,10 @@ use clap::ArgMatches;
 use jptr_tasks::exit_status::{BAD_INPUT, NOT_MADE, USAGE};
 use jptr_tasks::task_error::TaskError;
 use jsonptr::Pointer;
-use jsonptr_edit_in_toml::{Edited, assign_in_toml, delete_in_toml};
-use jsonptr_in_toml::{
-    EditTomlError, InTomlError, PrintTomlError, ReadTomlError, list_in_toml, resolve_in_toml,
+use jsonptr_edit_in_toml::{
+    Edited, RawTomlError, RawTomlValue, TomlEdit, TomlEditError, edit_toml,
 };
+use jsonptr_in_toml::{InTomlError, PrintTomlError, ReadTomlError, list_in_toml, resolve_in_toml};
 use jsonptr_paths::listing::Listed;
 use simdutf8::basic::from_utf8;
 use std::alloc::{AllocError, Global};
@@ -59,17 +59,63 @@ pub fn set(
 ) -> Result<u8, ProgramError> {
     let alloc = rt.alloc();
     check_flags(alloc, matches, true)?;
-    let value = ValueArgument::read(rt, matches, argument(matches, "JSON"))?.toml(alloc, matches)?;
+    let given = ValueArgument::read(rt, matches, argument(matches, "JSON"))?;
+    let raw = own_text(alloc, matches, &given)?;
+    let value = given.toml(alloc, matches)?;
     let source = Source::open(rt, matches)?;
     if matches.get_flag("no-expand") {
         check_toml_expansion(alloc, &source, pointer)?;
     }
-    match assign_in_toml(alloc, source.text(alloc)?, pointer, value) {
+    match assigned(alloc, source.text(alloc)?, pointer, value, raw) {
         Ok(edited) => put(rt, matches, &source, pointer, edited),
-        Err(error) => {
-            let refused = refusal(alloc, &source, error)?;
-            Err(source.error(alloc, pointer.as_str(), TaskError::Assign(refused)))
+        Err(error) => Err(edit_error(alloc, &source, pointer, error)),
+    }
+}
+
+/// Returns the value with its own text. Returns `None` for a string that is the unchanged argument, and if
+/// digits may be lost.
+fn own_text(
+    alloc: Global,
+    matches: &ArgMatches<'_>,
+    given: &ValueArgument<'_>,
+) -> Result<Option<RawTomlValue>, ProgramError> {
+    let text = match given {
+        ValueArgument::String(_) => return Ok(None),
+        ValueArgument::Text(_, text) => text.as_str(),
+        ValueArgument::FileName(text) => text,
+    };
+    if matches.get_flag("lossy") {
+        return Ok(None);
+    }
+    match RawTomlValue::parse(alloc, text) {
+        Ok(raw) => Ok(Some(raw)),
+        Err(RawTomlError::NotAValue) => Ok(None),
+        Err(RawTomlError::Memory(_)) => Err(ProgramError::Memory),
+    }
+}
+
+/// Returns the text after an assignment. The value keeps its own text, except where headers or dotted keys
+/// make it, as they make its siblings.
+fn assigned(
+    alloc: Global,
+    text: &str,
+    pointer: Pointer<'_>,
+    value: toml::Value,
+    raw: Option<RawTomlValue>,
+) -> Result<Edited, TomlEditError> {
+    let Some(raw) = raw else {
+        return edit_toml(alloc, text, &TomlEdit::AssignValue(pointer, value));
+    };
+    let (own, printed) = (raw.text.len(), value.to_string(alloc)?.len());
+    let laid_out = edit_toml(alloc, text, &TomlEdit::AssignValue(pointer, value))?;
+    let kept = edit_toml(alloc, text, &TomlEdit::Assign(pointer, raw))?;
+    match (laid_out, kept) {
+        (Edited::InPlace(laid_out), Edited::InPlace(kept)) => {
+            // The same text, except for that of the value.
+            let is_there = laid_out.len().saturating_add(own) == kept.len().saturating_add(printed);
+            Ok(Edited::InPlace(if is_there { kept } else { laid_out }))
         }
+        (laid_out, _) => Ok(laid_out),
     }
 }
 
@@ -82,10 +128,9 @@ pub fn delete(
     let alloc = rt.alloc();
     check_flags(alloc, matches, false)?;
     let source = Source::open(rt, matches)?;
-    match delete_in_toml(alloc, source.text(alloc)?, pointer) {
-        Ok(Some(edited)) => put(rt, matches, &source, pointer, edited),
-        Ok(None) => Err(source.error(alloc, pointer.as_str(), TaskError::NotThere)),
-        Err(error) => match refusal(alloc, &source, error)? {},
+    match edit_toml(alloc, source.text(alloc)?, &TomlEdit::Delete(pointer)) {
+        Ok(edited) => put(rt, matches, &source, pointer, edited),
+        Err(error) => Err(edit_error(alloc, &source, pointer, error)),
     }
 }
 
@@ -106,14 +151,14 @@ fn put(
     pointer: Pointer<'_>,
     edited: Edited,
 ) -> Result<u8, ProgramError> {
-    if let Edited::Rewritten(_) = &edited {
+    if !edited.is_in_place() {
         if source.target.is_some() && !matches.get_flag("reformat") {
             return Err(source.error(rt.alloc(), pointer.as_str(), TaskError::NotInPlace));
         }
         let shown = shown(rt.alloc(), source.name)?;
         let _ = eprintln!(rt; "jptr: {shown}: printed anew, without its comments and layout");
     }
-    source.put(rt, edited.as_str())?;
+    source.put(rt, edited.or_reprinted().as_str())?;
     Ok(0)
 }
 
@@ -199,26 +244,26 @@ pub fn resolve_error(
     }
 }
 
-/// Returns the error of the call on the document, if that is why an edit is not made.
-///
-/// # Errors
-///
-/// The error of the program for any other reason.
-fn refusal<E>(
+/// Returns the error of an edit. If the pointer is at fault, it is below it.
+fn edit_error(
     alloc: Global,
     source: &Source<'_>,
-    error: EditTomlError<E>,
-) -> Result<E, ProgramError> {
-    match error {
-        EditTomlError::NotToml => Err(read_error(alloc, source, ReadTomlError::NotToml)),
-        EditTomlError::DocumentTooDeep => {
-            Err(read_error(alloc, source, ReadTomlError::DocumentTooDeep))
+    pointer: Pointer<'_>,
+    error: TomlEditError,
+) -> ProgramError {
+    let fault = match error {
+        TomlEditError::NotToml => return read_error(alloc, source, ReadTomlError::NotToml),
+        TomlEditError::DocumentTooDeep => {
+            return read_error(alloc, source, ReadTomlError::DocumentTooDeep);
         }
-        EditTomlError::Refused(refused) => Ok(refused),
-        EditTomlError::TooDeep => Err(print_error(alloc, source, PrintTomlError::TooDeep)),
-        EditTomlError::NoText => Err(print_error(alloc, source, PrintTomlError::NoText)),
-        EditTomlError::Memory(_) => Err(ProgramError::Memory),
-    }
+        TomlEditError::TooDeep => return print_error(alloc, source, PrintTomlError::TooDeep),
+        TomlEditError::NoText => return print_error(alloc, source, PrintTomlError::NoText),
+        TomlEditError::Memory(_) => return ProgramError::Memory,
+        TomlEditError::Assign(error) => TaskError::Assign(error),
+        TomlEditError::NotThere => TaskError::NotThere,
+        TomlEditError::Rename(error) => TaskError::NotRenamed(error),
+    };
+    source.error(alloc, pointer.as_str(), fault)
 }
 
 /// Returns why the text is not TOML: the line and the column, and below them that line and a caret.

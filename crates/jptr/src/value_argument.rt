@@ -8,7 +8,7 @@ use crate::shown::shown;
 use crate::source::past_mark;
 use clap::ArgMatches;
 use jptr_tasks::exit_status::{BAD_INPUT, USAGE};
-use jsonptr_edit_in_text::RawValue;
+use jsonptr_text_edit::RawValue;
 use jsonptr_value::if_json;
 use serde_json::Value;
 use simdutf8::basic::from_utf8;
