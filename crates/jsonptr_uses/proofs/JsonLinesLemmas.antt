@@ -16,7 +16,7 @@ use Rattle.jsonptr_paths.specs.declared.build.LineError.{LineError}
 use Rattle.jptr_tasks.specs.Layouts.{ShowsInLayout, ReadsBack}
 use Rattle.jptr_tasks.specs.LineResults.{LineGives, LinesGive, IsReport}
 use Rattle.jptr_tasks.specs.Paths.{ListsText, BuildsText, FailsToBuild, PutsText, StopsText}
-use Rattle.jptr_tasks.specs.Results.{Sets, Yields}
+use Rattle.jptr_tasks.specs.Results.{EditsInLayout, Yields}
 use Rattle.jptr_tasks.specs.Runs.{IsRun}
 use Rattle.jptr_tasks.specs.declared.task_error.TaskError.{TaskError}
 use Rattle.jptr_tasks.specs.declared.task_error.TaskError.TheVariants.{BadLine}
@@ -26,7 +26,8 @@ use Rattle.jptr_tasks.specs.declared.line.LineTask.{LineTask}
 use Rattle.jptr_tasks.specs.declared.lines.Ended.{Ended}
 use Rattle.jptr_tasks.specs.declared.lines.Ended.TheVariants.{Fine}
 use Rattle.jptr_tasks.specs.declared.task.Task.{Task}
-use Rattle.jptr_tasks.specs.declared.task.Task.TheVariants.{Set}
+use Rattle.jptr_tasks.specs.declared.task.Task.TheVariants as tasks
+use Rattle.jsonptr_text_edit.specs.declared.edit.Edit.TheVariants as edits
 use Rattle.jsonptr_uses.specs.JsonLines.{TagsEach}
 
 not_nil : (x : Text) (b : ℕ) (y : Text) → x ++ b ∷ y ≡ [] → ⊥
@@ -44,12 +45,12 @@ nil_right (a ∷ x) y e = cc
 pub report_some : (name : Text) (n : ℕ) (r : Text) → IsReport name n r → r ≡ [] → ⊥
 report_some name n r h e = not_nil name 58 (decimal n ++ (codes ": " ++ (h.0 ++ 10 ∷ []))) (sym h.1 ∙ e)
 
-module _ (run : LineTask) (p : Pointer) (v : RawValue) (task : run.task ≡ Set p v) (layout : run.layout ≡ Kept) where
-  set_line : (n : ℕ) (l out err : Text) → LineGives run n l out err → err ≡ [] → ((new : Text) × Sets l (tokens p) v Kept new × (out ≡ new ++ 10 ∷ [])) ⊎ (IsBlank l × (out ≡ []))
+module _ (run : LineTask) (p : Pointer) (v : RawValue) (task : run.task ≡ tasks.Edit (edits.Assign p v)) (layout : run.layout ≡ Kept) where
+  set_line : (n : ℕ) (l out err : Text) → LineGives run n l out err → err ≡ [] → ((new : Text) × EditsInLayout l (edits.Assign p v) Kept new × (out ≡ new ++ 10 ∷ [])) ⊎ (IsBlank l × (out ≡ []))
   set_line n l out err h none = elim h [
     | inl x ↦
-        let one : Yields (Set p v) run.layout l x.0 = subst (λ (t : Task). Yields t run.layout l x.0) task x.1.1 in
-        let two : Yields (Set p v) Kept l x.0 = subst (λ (y : Layout). Yields (Set p v) y l x.0) layout one in
+        let one : Yields (tasks.Edit (edits.Assign p v)) run.layout l x.0 = subst (λ (t : Task). Yields t run.layout l x.0) task x.1.1 in
+        let two : Yields (tasks.Edit (edits.Assign p v)) Kept l x.0 = subst (λ (y : Layout). Yields (tasks.Edit (edits.Assign p v)) y l x.0) layout one in
         inl (x.0, two, x.2)
     | inr x ↦ elim x [
       | inl y ↦ absurd (report_some (string_bytes run.name) n err y.4 none)
@@ -71,7 +72,7 @@ module _ (run : LineTask) (p : Pointer) (v : RawValue) (task : run.task ≡ Set 
               made.0,
               h.2,
               made.1,
-              bytes.0,
+              bytes.0.0,
               rest,
               h.6 ∙ ap (λ (t : Text). t ++ h.2) (here.2 ∙ ap (λ (t : Text). t ++ 10 ∷ []) is) ∙ append_assoc made.0 (10 ∷ []) h.2,
             )
@@ -89,7 +90,7 @@ for_map : (known : Known) (P Q : List ℕ → Type 0) → ((bytes : List ℕ) �
 for_map None P Q f h = (h.0, f h.0 h.1)
 for_map (Some bytes) P Q f h = f bytes h
 
-pub all_tagged : (run : LineTask) (p : Pointer) (v : RawValue) (known w0 w1 e0 e1 : Known) (ended : Ended) → run.task ≡ Set p v → run.layout ≡ Kept → ended ≡ Fine → IsRun run known w0 w1 e0 e1 ended
+pub all_tagged : (run : LineTask) (p : Pointer) (v : RawValue) (known w0 w1 e0 e1 : Known) (ended : Ended) → run.task ≡ tasks.Edit (edits.Assign p v) → run.layout ≡ Kept → ended ≡ Fine → IsRun run known w0 w1 e0 e1 ended
     → ForInput known (λ bytes. (ls : List Text) × (out : Text) × AreLines bytes ls × TagsEach (tokens p) (value_of_raw v) ls out × Appends w0 w1 out)
 all_tagged run p v known w0 w1 e0 e1 ended task layout is h = for_map known _ _
     (λ bytes x. (x.0, x.1, x.3.0, tags_each run p v task layout x.0 1 x.1 x.2 x.4 x.3.1, x.5))

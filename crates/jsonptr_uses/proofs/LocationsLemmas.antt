@@ -1,5 +1,5 @@
 -- The bytes of a value in a text, and an offset that no value has.
-use Rattle.std.proofs.Common.{◌≡◌, ◌⊎◌, inl, inr, ℕ, ◌+◌, ◌-◌, ◌≤◌, List, ◌++◌, length, take, drop, ap, sym, ◌∙◌, subst, arith, length-append}
+use Rattle.std.proofs.Common.{◌≡◌, inl, inr, ℕ, ◌+◌, ◌-◌, ◌≤◌, List, ◌++◌, length, take, drop, ap, sym, ◌∙◌, subst, arith, length-append}
 use Rattle.std.proofs.Math.Seq.{drop-append_seam, take-append_seam}
 use Rattle.serde_json.specs.Data.{Data}
 use Rattle.jsonptr.specs.Text.{Text}
@@ -9,7 +9,6 @@ use Rattle.jsonptr_edit_in_text.specs.Locating.{IsOutside}
 use Rattle.jsonptr_c_calls.specs.Locations.{IsNotPointedAt, LocatesInText}
 use Rattle.jsonptr_c_calls.specs.Pointers.{HasTokens}
 use Rattle.jsonptr_c_calls.specs.declared.call_error.Argument.TheVariants as argument
-use Rattle.jsonptr_c_calls.specs.declared.call_error.CallError.{CallError}
 use Rattle.jsonptr_c_calls.specs.declared.call_error.CallError.TheVariants.{NoRoom, NotUtf8, NotJson, Resolve, NotLocated, NoValue}
 
 -- the bytes of a value are bytes of the text

@@ -5,10 +5,10 @@ use Rattle.jsonptr.specs.Text.{Text}
 use Rattle.jsonptr_comments.specs.Comments.{IsWithoutComments, IsUnterminated}
 use Rattle.jsonptr_in_text.specs.InText.{FindsInText, IsInTextError}
 use Rattle.jsonptr_patch.specs.declared.failed_operation.FailedOperation.{FailedOperation}
-use Rattle.jsonptr_patch.specs.declared.operation.Operation.{Operation}
 use Rattle.jsonptr_patch.specs.declared.operation.PatchError.TheVariants.{TestFailed}
-use Rattle.jsonptr_edit_in_text.specs.PatchInText.{IsPatchError}
-use Rattle.jsonptr_edit_in_text.specs.declared.edited.EditError.TheVariants.{Refused}
+use Rattle.jsonptr_text_edit.specs.Errors.{IsEditError}
+use Rattle.jsonptr_text_edit.specs.declared.edit.Edit.{Edit}
+use Rattle.jsonptr_text_edit.specs.declared.edit_error.EditError.TheVariants.{Patch}
 use Rattle.jsonptr_uses.specs.declared.commented.SettingError.{SettingError}
 use Rattle.jsonptr_uses.specs.declared.commented.SettingError.TheVariants.{Comment, InText, Memory}
 
@@ -22,7 +22,7 @@ IsSettingError text tokens (Comment e) = IsUnterminated text e.offset
 IsSettingError text tokens (InText e) = (json : Text) × IsWithoutComments text json × IsInTextError json tokens e
 IsSettingError text tokens (Memory e) = ⊤
 
--- `FailsTest text os`: one of the operations `os` is a test that fails, in the document of the text without its comments
-abbrev pub FailsTest : Text → List Operation → Type 0
-FailsTest text os = (json : Text) × (k : ℕ) × (f : FailedOperation) × IsWithoutComments text json
-    × IsPatchError json os (Refused f) × (f.error ≡ TestFailed k)
+-- `FailsTest text edit`: the edit is a patch with a test that fails, in the document of the text without its comments
+abbrev pub FailsTest : Text → Edit → Type 0
+FailsTest text edit = (json : Text) × (k : ℕ) × (f : FailedOperation) × IsWithoutComments text json
+    × IsEditError json edit (Patch f) × (f.error ≡ TestFailed k)

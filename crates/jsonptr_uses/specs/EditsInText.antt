@@ -1,21 +1,13 @@
 -- Two edits in the text of a document.
-use Rattle.std.specs.Prelude.{◌≡◌, List, Option, Some}
-use Rattle.serde_json.specs.Data.{Data}
-use Rattle.serde_json.specs.Read.{read}
 use Rattle.jsonptr.specs.Text.{Text}
-use Rattle.jsonptr.specs.Node.{NodeMap}
-use Rattle.jsonptr.specs.Json.{nodes}
-use Rattle.jsonptr.specs.Assigning.{Assigns}
-use Rattle.jsonptr_edit_in_text.specs.Bytes.{AssignsBytes}
+use Rattle.jsonptr_text_edit.specs.Edits.{EditsText, EditBytes}
+use Rattle.jsonptr_text_edit.specs.declared.edit.Edit.{Edit}
 
--- `AssignsBothInText old ts v us w new`: the texts read as documents, and assigning `v` at the tokens `ts`, and then `w` at
--- the tokens `us`, turns the first into the second
-abbrev pub AssignsBothInText : Text → List Text → NodeMap → List Text → NodeMap → Text → Type 0
-AssignsBothInText old ts v us w new =
-    (d d2 : Data) × (read old ≡ Some d) × (read new ≡ Some d2)
-    × (m : NodeMap) × (first second : Option NodeMap)
-    × Assigns (nodes d) ts v m first × Assigns m us w (nodes d2) second
+-- `EditsBoth old first second new`: the texts read as documents, and the edit `first`, and then the edit `second`, turns the
+-- first into the second
+abbrev pub EditsBoth : Text → Edit → Edit → Text → Type 0
+EditsBoth old first second new = (mid : Text) × EditsText old first mid × EditsText mid second new
 
--- `AssignsBothBytes old ts v us w new`: `new` comes from `old` by two edits, each of which changes bytes at its own location
-abbrev pub AssignsBothBytes : Text → List Text → Data → List Text → Data → Text → Type 0
-AssignsBothBytes old ts v us w new = (mid : Text) × AssignsBytes old ts v mid × AssignsBytes mid us w new
+-- `EditBothBytes old first second new`: `new` comes from `old` by two edits, each of which changes bytes at its own location
+abbrev pub EditBothBytes : Text → Edit → Edit → Text → Type 0
+EditBothBytes old first second new = (mid : Text) × EditBytes old first mid × EditBytes mid second new

@@ -10,7 +10,7 @@ use jptr_tasks::result::result_in_text;
 use jptr_tasks::task::Task;
 use jptr_tasks::task_error::TaskError;
 use jsonptr::Pointer;
-use jsonptr_edit_in_text::RawValue;
+use jsonptr_text_edit::{Edit, RawValue};
 use serde_json::Value;
 use std::alloc::Global;
 
@@ -33,6 +33,6 @@ pub fn with_string(
     let Some(value) = RawValue::from_value(alloc, &value)? else {
         return Err(TaskError::TooDeep);
     };
-    let task = Task::Set(pointer, value);
+    let task = Task::Edit(Edit::Assign(pointer, value));
     result_in_text(alloc, text, &task, Layout::Kept)
 }

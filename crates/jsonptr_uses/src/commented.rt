@@ -1,17 +1,18 @@
 //! Settings in a JSON text with comments.
-ghost use Rattle.std.specs.Prelude.{IfOk, IfErr, MatchOption, string_bytes};
+ghost use Rattle.std.specs.Prelude.{IfOk, IfErr, IfSome, MatchOption};
 ghost use Rattle.serde_json.specs.View.{view};
 ghost use Rattle.jsonptr.specs.Pointer.{tokens};
-ghost use Rattle.jsonptr_edit_in_text.specs.PatchInText.{PatchesInText, IsPatchError};
-ghost use Rattle.jsonptr_edit_with_comments.specs.EditWithComments.{Becomes, IsWithCommentsError};
-ghost use Rattle.jsonptr_edit_with_comments.specs.Patches.{PatchEdits};
+ghost use Rattle.jsonptr_edit_with_comments.specs.EditWithComments.{Becomes};
+ghost use Rattle.jsonptr_text_edit.specs.Edited.{text_of, IfInPlace};
+ghost use Rattle.jsonptr_text_edit.specs.Edits.{EditsText};
+ghost use Rattle.jsonptr_comments_edit.specs.Commented.{CommentedBytes, IsCommentedError};
 ghost use Rattle.jsonptr_uses.specs.Commented.{HasSetting, IsSettingError, FailsTest};
 
 use jsonptr::{Fault, Pointer};
 use jsonptr_comments::{CommentError, without_comments};
-use jsonptr_edit_with_comments::{Buffers, WithCommentsError, apply_with_comments};
+use jsonptr_comments_edit::{Buffers, CommentedText, Edit, EditError, Edited, edit_commented};
 use jsonptr_in_text::{InTextError, resolve_in_text};
-use jsonptr_patch::{FailedOperation, Operation, PatchError};
+use jsonptr_patch::{FailedOperation, PatchError};
 use serde_json::Value;
 use std::alloc::{AllocError, Global};
 
@@ -46,29 +47,29 @@ pub fn setting(alloc: Global, text: &str, pointer: Pointer<'_>) -> Result<Value,
     }
 }
 
-/// Applies an upgrade to the text of settings, and keeps its comments. Returns `None` if a test of the
-/// upgrade fails, so that it is not for these settings.
+/// Makes an upgrade of the settings, as a patch, and keeps their comments if it is made in place. Returns
+/// `None` if a test of the upgrade fails, so that it is not for these settings.
 ///
 /// # Errors
 ///
-/// Those of `apply_with_comments`, except that a test fails.
+/// Those of [`edit_commented`], except that a test fails.
 pub fn upgraded(
-    alloc: Global,
-    text: &str,
-    upgrade: Vec<Operation>,
-) -> Result<Option<String>, WithCommentsError<FailedOperation>>
-    ensures upgraded { IfOk result (λ o. MatchOption o (FailsTest text.now upgrade.items)
-        (λ s. Becomes (λ old new. PatchesInText old upgrade.items new) text.now (string_bytes s)
-        × PatchEdits text.now upgrade.items (string_bytes s))) }
-    ensures refused { IfErr result (IsWithCommentsError
-        (λ old new. PatchesInText old upgrade.items new)
-        (λ old e. IsPatchError old upgrade.items e) text.now) }
+    buffers: &mut Buffers,
+    settings: &CommentedText<'_>,
+    upgrade: &Edit<'_>,
+) -> Result<Option<Edited>, EditError>
+    ensures upgraded { IfOk result (λ o. MatchOption o
+        (FailsTest settings.now.text.now upgrade.now)
+        (λ e. Becomes (λ old new. EditsText old upgrade.now new)
+        settings.now.text.now (text_of e))) }
+    ensures bytes { IfOk result (λ o. IfSome o
+        (IfInPlace (CommentedBytes settings.now.text.now upgrade.now))) }
+    ensures refused { IfErr result (IsCommentedError settings.now.text.now upgrade.now) }
 {
-    let mut buffers = Buffers::new(alloc);
-    match apply_with_comments(alloc, &mut buffers, text, upgrade) {
-        Ok(new) => Ok(Some(new)),
+    match edit_commented(buffers, settings, upgrade) {
+        Ok(edited) => Ok(Some(edited)),
         Err(
-            WithCommentsError::Refused(
+            EditError::Patch(
                 FailedOperation {
                     error: PatchError::TestFailed { .. },
                     ..

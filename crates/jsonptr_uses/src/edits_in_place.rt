@@ -1,29 +1,26 @@
-//! Edits of a text that people keep under version control: only the bytes of the edit change.
+//! Edits of a text that people keep under version control: in place only the bytes of the edit change.
 ghost use Rattle.std.specs.Prelude.{◌≡◌, ◌⊎◌, ◌∷◌, [], IfOk, IfErr, IfSome, MatchOption, string_bytes};
 ghost use Rattle.serde_json.specs.Data.{Data};
-ghost use Rattle.serde_json.specs.View.{view};
-ghost use Rattle.jsonptr.specs.Json.{nodes};
 ghost use Rattle.jsonptr.specs.Pointer.{tokens};
 ghost use Rattle.jsonptr.specs.declared.resolve.Error.{Error};
 ghost use Rattle.jsonptr_in_text.specs.InText.{FindsInText, RefusesInText};
-ghost use Rattle.jsonptr_value.specs.Reading.{IsReadError};
-ghost use Rattle.jsonptr_edit_in_text.specs.Bytes.{AssignsBytes, DeletesBytes};
-ghost use Rattle.jsonptr_edit_in_text.specs.EditInText.{AssignsInText, DeletesInText, LacksInText, IsAssignError};
-ghost use Rattle.jsonptr_edit_in_text.specs.PatchInText.{PatchesInText, MovesBytes, IsPatchError};
-ghost use Rattle.jsonptr_edit_in_text.specs.InPlace.{IsInPlaceError, StaysOneLine};
-ghost use Rattle.jsonptr_edit_in_text.specs.declared.edited.EditError.TheVariants.{Refused};
+ghost use Rattle.jsonptr_edit_in_text.specs.EditInText.{LacksInText};
+ghost use Rattle.jsonptr_edit_in_text.specs.OneLine.{StaysOneLine};
+ghost use Rattle.jsonptr_edit_in_text.specs.PatchInText.{PatchesInText, MovesBytes};
 ghost use Rattle.jsonptr_patch.specs.declared.failed_operation.FailedOperation.{FailedOperation as a_failed_operation};
 ghost use Rattle.jsonptr_patch.specs.declared.operation.Operation.TheVariants.{Move};
+ghost use Rattle.jsonptr_text_value.specs.Operations.{operations_in};
+ghost use Rattle.jsonptr_text_edit.specs.Edited.{text_of, IfInPlace};
+ghost use Rattle.jsonptr_text_edit.specs.Edits.{EditsText, EditBytes};
+ghost use Rattle.jsonptr_text_edit.specs.Errors.{FailsToPatch, IsEditError};
+ghost use Rattle.jsonptr_text_edit.specs.declared.edit.Edit.TheVariants.{Assign, Delete};
+ghost use Rattle.jsonptr_text_edit.specs.declared.edit_error.EditError.TheVariants.{NotThere, Patch};
 
-use jsonptr::{Pointer, PointerBuf, assign};
-use jsonptr_edit_in_text::{
-    Buffers, EditError, InPlaceError, apply_in_place, apply_in_text, assign_in_place,
-    delete_in_place, delete_in_text,
-};
+use jsonptr::{Pointer, PointerBuf};
 use jsonptr_in_text::exists_in_text;
-use jsonptr_patch::{FailedOperation, Operation};
+use jsonptr_patch::Operation;
+use jsonptr_text_edit::{Buffers, Edit, EditError, Edited, PatchText, RawValue, edit_text};
 use jsonptr_value::ReadError;
-use serde_json::Value;
 use std::alloc::{AllocError, Global};
 
 /// Assigns the value at a pointer that resolves already, and returns the new text. Returns `None` for
@@ -31,31 +28,29 @@ use std::alloc::{AllocError, Global};
 ///
 /// # Errors
 ///
-/// Those of [`assign_in_place`].
+/// Those of [`edit_text`] for [`Edit::Assign`].
 pub fn set_existing(
-    alloc: Global,
+    buffers: &mut Buffers,
     text: &str,
     pointer: Pointer<'_>,
-    value: Value,
-) -> Result<Option<String>, InPlaceError<EditError<assign::Error>>>
+    raw: RawValue,
+) -> Result<Option<Edited>, EditError>
     ensures assigned { IfOk result (λ o. MatchOption o
         ((e : Error) × RefusesInText text.now (tokens pointer.entry) e)
-        (λ s. ((d : Data) × FindsInText text.now (tokens pointer.entry) d)
-        × AssignsInText text.now (tokens pointer.entry) (nodes (view value)) (string_bytes s))) }
-    ensures bytes { IfOk result (λ o. IfSome o (λ s.
-        AssignsBytes text.now (tokens pointer.entry) (view value) (string_bytes s))) }
-    ensures refused { IfErr result (IsInPlaceError
-        (AssignsInText text.now (tokens pointer.entry) (nodes (view value)))
-        (IsAssignError text.now (tokens pointer.entry) (view value))) }
+        (λ new. ((d : Data) × FindsInText text.now (tokens pointer.entry) d)
+        × EditsText text.now (Assign pointer.entry raw) (text_of new))) }
+    ensures bytes { IfOk result (λ o. IfSome o
+        (IfInPlace (EditBytes text.now (Assign pointer.entry raw)))) }
+    ensures refused { IfErr result (IsEditError text.now (Assign pointer.entry raw)) }
 {
-    match exists_in_text(alloc, text, pointer) {
+    match exists_in_text(buffers.alloc, text, pointer) {
         Ok(true) => {
-            let mut buffers = Buffers::new(alloc);
-            let new = assign_in_place(alloc, &mut buffers, text, pointer, value)?;
+            let new = edit_text(buffers, text, &Edit::Assign(pointer, raw))?;
             Ok(Some(new))
         }
         Ok(false) => Ok(None),
-        Err(error) => Err(InPlaceError::Edit(EditError::from(error))),
+        Err(ReadError::NotJson) => Err(EditError::NotJson),
+        Err(ReadError::Memory(error)) => Err(EditError::Memory(error)),
     }
 }
 
@@ -64,27 +59,20 @@ pub fn set_existing(
 ///
 /// # Errors
 ///
-/// Those of [`delete_in_place`].
-pub fn without(
-    alloc: Global,
-    text: &str,
-    pointer: Pointer<'_>,
-) -> Result<String, InPlaceError<ReadError>>
-    ensures deleted { IfOk result (λ s.
-        (DeletesInText text.now (tokens pointer.entry) (string_bytes s)
-        × DeletesBytes text.now (tokens pointer.entry) (string_bytes s))
-        ⊎ (LacksInText text.now (tokens pointer.entry) × (string_bytes s ≡ text.now))) }
-    ensures one_line { IfOk result (λ s. StaysOneLine text.now (string_bytes s)) }
-    ensures refused { IfErr result (IsInPlaceError
-        (DeletesInText text.now (tokens pointer.entry)) (IsReadError text.now)) }
+/// Those of [`edit_text`] for [`Edit::Delete`], except [`EditError::NotThere`].
+pub fn without(buffers: &mut Buffers, text: &str, pointer: Pointer<'_>) -> Result<Edited, EditError>
+    ensures deleted { IfOk result (λ e.
+        (EditsText text.now (Delete pointer.entry) (text_of e)
+        × IfInPlace (EditBytes text.now (Delete pointer.entry)) e)
+        ⊎ (LacksInText text.now (tokens pointer.entry) × (text_of e ≡ text.now))) }
+    ensures one_line { IfOk result (IfInPlace (StaysOneLine text.now)) }
+    ensures refused { IfErr result (IsEditError text.now (Delete pointer.entry)) }
+    ensures never_missing { IfErr result (λ e. e ≡ NotThere → ⊥) }
 {
-    let mut buffers = Buffers::new(alloc);
-    match delete_in_place(alloc, &mut buffers, text, pointer)? {
-        Some(new) => Ok(new),
-        None => match String::from_str(alloc, text) {
-            Ok(same) => Ok(same),
-            Err(error) => Err(InPlaceError::Edit(ReadError::Memory(error))),
-        },
+    match edit_text(buffers, text, &Edit::Delete(pointer)) {
+        Ok(edited) => Ok(edited),
+        Err(EditError::NotThere) => Ok(Edited::InPlace(String::from_str(buffers.alloc, text)?)),
+        Err(error) => Err(error),
     }
 }
 
@@ -92,76 +80,48 @@ pub fn without(
 ///
 /// # Errors
 ///
-/// Those of [`apply_in_place`], for the operation with the number 0.
+/// Those of [`edit_text`] for [`Edit::Patch`], for the operation with the number 0.
 pub fn moved(
-    alloc: Global,
+    buffers: &mut Buffers,
     text: &str,
     from: PointerBuf,
     path: PointerBuf,
-) -> Result<String, InPlaceError<EditError<FailedOperation>>>
-    ensures moved { IfOk result (λ s. PatchesInText text.now (Move from path ∷ []) (string_bytes s)) }
-    ensures bytes { IfOk result (λ s. MovesBytes text.now from path (string_bytes s)) }
-    ensures refused { IfErr result (IsInPlaceError
-        (PatchesInText text.now (Move from path ∷ []))
-        (IsPatchError text.now (Move from path ∷ []))) }
+) -> Result<Edited, EditError>
+    ensures moved { IfOk result (λ e. PatchesInText text.now (Move from path ∷ []) (text_of e)) }
+    ensures bytes { IfOk result (IfInPlace (MovesBytes text.now from path)) }
+    ensures refused { IfErr result (FailsToPatch text.now (Move from path ∷ [])) }
 {
-    let mut buffers = Buffers::new(alloc);
-    match patch_of_move(alloc, from, path) {
-        Ok(patch) => apply_in_place(alloc, &mut buffers, text, patch),
-        Err(error) => Err(InPlaceError::Edit(EditError::Memory(error))),
-    }
+    let patch = patch_of_move(buffers.alloc, from, path)?;
+    edit_text(buffers, text, &Edit::Patch(patch))
 }
 
 /// Returns the patch of one move.
-fn patch_of_move(
-    alloc: Global,
-    from: PointerBuf,
-    path: PointerBuf,
-) -> Result<Vec<Operation>, AllocError>
-    ensures { IfOk result (λ patch. patch.items ≡ Move from path ∷ []) }
+fn patch_of_move(alloc: Global, from: PointerBuf, path: PointerBuf) -> Result<PatchText, AllocError>
+    ensures { IfOk result (λ p. operations_in p.operations.items ≡ Move from path ∷ []) }
 {
-    Ok(vec![in alloc; Operation::Move { from, path }]?)
+    PatchText::from_operations(alloc, vec![in alloc; Operation::Move { from, path }]?)
 }
 
-/// Brings a text to a new form by a patch, and returns `None` if an operation fails, as a `test` in a
-/// text that has the new form already.
+/// Brings a text to a new form by an edit, and returns `None` if an operation of its patch fails, as a `test`
+/// in a text that has the new form already. One migration serves many texts.
 ///
 /// # Errors
 ///
-/// Those of [`apply_in_text`], except [`EditError::Refused`].
+/// Those of [`edit_text`], except [`EditError::Patch`].
 pub fn migrated(
-    alloc: Global,
+    buffers: &mut Buffers,
     text: &str,
-    operations: Vec<Operation>,
-) -> Result<Option<String>, EditError<FailedOperation>>
+    migration: &Edit<'_>,
+) -> Result<Option<String>, EditError>
     ensures migrated { IfOk result (λ o. MatchOption o
-        ((f : a_failed_operation) × IsPatchError text.now operations.items (Refused f))
-        (λ s. PatchesInText text.now operations.items (string_bytes s))) }
-    ensures refused { IfErr result (IsPatchError text.now operations.items) }
-    ensures never_refused { IfErr result (λ e. (f : a_failed_operation) → e ≡ Refused f → ⊥) }
+        ((f : a_failed_operation) × IsEditError text.now migration.now (Patch f))
+        (λ s. EditsText text.now migration.now (string_bytes s))) }
+    ensures refused { IfErr result (IsEditError text.now migration.now) }
+    ensures never_refused { IfErr result (λ e. (f : a_failed_operation) → e ≡ Patch f → ⊥) }
 {
-    match apply_in_text(alloc, text, operations) {
-        Ok(edited) => Ok(Some(edited.into_string())),
-        Err(EditError::Refused(_failed)) => Ok(None),
-        Err(EditError::NotJson) => Err(EditError::NotJson),
-        Err(EditError::TooDeep) => Err(EditError::TooDeep),
-        Err(EditError::Memory(error)) => Err(EditError::Memory(error)),
-    }
-}
-
-/// Returns the text without a secret member, as it may be published: also where it has to be printed
-/// anew for that. A text that lacks the member is returned unchanged.
-///
-/// # Errors
-///
-/// Those of [`delete_in_text`].
-pub fn published(alloc: Global, text: &str, secret: Pointer<'_>) -> Result<String, ReadError>
-    ensures deleted { IfOk result (λ s. DeletesInText text.now (tokens secret.entry) (string_bytes s)
-        ⊎ (LacksInText text.now (tokens secret.entry) × (string_bytes s ≡ text.now))) }
-    ensures refused { IfErr result (IsReadError text.now) }
-{
-    match delete_in_text(alloc, text, secret)? {
-        Some(edited) => Ok(edited.into_string()),
-        None => Ok(String::from_str(alloc, text)?),
+    match edit_text(buffers, text, migration) {
+        Ok(edited) => Ok(Some(edited.or_reprinted())),
+        Err(EditError::Patch(_failed)) => Ok(None),
+        Err(error) => Err(error),
     }
 }

@@ -1,53 +1,32 @@
 //! Two edits in the text of one document, as in a file that people keep by hand.
 ghost use Rattle.std.specs.Prelude.{IfOk};
-ghost use Rattle.serde_json.specs.View.{view};
-ghost use Rattle.jsonptr.specs.Json.{nodes};
-ghost use Rattle.jsonptr.specs.Pointer.{tokens};
-ghost use Rattle.jsonptr_edit_in_text.specs.Bytes.{KeepsBytes};
-ghost use Rattle.jsonptr_edit_in_text.specs.EditInText.{edited_text};
-ghost use Rattle.jsonptr_uses.specs.EditsInText.{AssignsBothInText, AssignsBothBytes};
+ghost use Rattle.jsonptr_text_edit.specs.Edited.{text_of, IfInPlace};
+ghost use Rattle.jsonptr_uses.specs.EditsInText.{EditsBoth, EditBothBytes};
 
-use jsonptr::{Pointer, assign};
-use jsonptr_edit_in_text::{EditError, Edited, assign_in_text};
-use serde_json::Value;
-use std::alloc::Global;
+use jsonptr_text_edit::{Buffers, Edit, EditError, Edited, edit_text};
 
-/// A value, and where it is assigned.
-#[derive(Debug, Drop)]
-pub struct Assignment<'a> {
-    /// Where.
-    pub pointer: Pointer<'a>,
-    /// The value.
-    pub value: Value,
-}
-
-/// Assigns a value at each of two pointers in the text: the second one in the text that the first
-/// one leaves.
+/// Makes two edits in the text: the second one in the text that the first one leaves.
 ///
-/// The new text reads as the document after both assignments. If both are in place, so is the
-/// result: each changed the bytes at its own location, and all others are those of the text.
+/// The new text reads as the document after both edits. If both are in place, so is the result: each
+/// changed the bytes at its own location, and all others are those of the text.
 ///
 /// # Errors
 ///
-/// Those of [`assign_in_text`], of the first assignment or of the second.
-pub fn assign_both_in_text(
-    alloc: Global,
+/// Those of [`edit_text`], of the first edit or of the second.
+pub fn edit_both(
+    buffers: &mut Buffers,
     text: &str,
-    first: Assignment<'_>,
-    second: Assignment<'_>,
-) -> Result<Edited, EditError<assign::Error>>
-    ensures meaning { IfOk result (λ e. AssignsBothInText text.now
-        (tokens first.entry.pointer) (nodes (view first.entry.value))
-        (tokens second.entry.pointer) (nodes (view second.entry.value)) (edited_text e)) }
-    ensures bytes { IfOk result (KeepsBytes (AssignsBothBytes text.now
-        (tokens first.entry.pointer) (view first.entry.value)
-        (tokens second.entry.pointer) (view second.entry.value))) }
+    first: &Edit<'_>,
+    second: &Edit<'_>,
+) -> Result<Edited, EditError>
+    ensures meaning { IfOk result (λ e. EditsBoth text.now first.now second.now (text_of e)) }
+    ensures bytes { IfOk result (IfInPlace (EditBothBytes text.now first.now second.now)) }
 {
-    match assign_in_text(alloc, text, first.pointer, first.value)? {
-        Edited::InPlace(mid) => assign_in_text(alloc, mid.as_str(), second.pointer, second.value),
-        Edited::Rewritten(mid) => {
-            let last = assign_in_text(alloc, mid.as_str(), second.pointer, second.value)?;
-            Ok(Edited::Rewritten(last.into_string()))
+    match edit_text(buffers, text, first)? {
+        Edited::InPlace(mid) => edit_text(buffers, mid.as_str(), second),
+        Edited::Reprinted(mid) => {
+            let last = edit_text(buffers, mid.as_str(), second)?;
+            Ok(Edited::Reprinted(last.or_reprinted()))
         }
     }
 }

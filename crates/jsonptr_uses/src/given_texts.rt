@@ -5,51 +5,48 @@ ghost use Rattle.jsonptr_text_value.specs.Operations.{operations_in, IsGivenIn};
 ghost use Rattle.jsonptr_edit_in_text.specs.RawPatching.{RawPatchBytes};
 ghost use Rattle.jsonptr_text_value.specs.declared.raw_operation.RawOperation.{RawOperation};
 
-use jsonptr::Fault;
-use jsonptr_edit_in_text::{Buffers, RawOperation, raw_operations, try_apply_raw_in_place};
-use jsonptr_patch_document::read_patch;
+use jsonptr_text_edit::{Buffers, Edit, EditError, PatchText, edit_text};
+use jsonptr_text_value::PatchTextError;
 use jsonptr_value::if_json;
 use std::alloc::{AllocError, Global};
 
-/// Applies the patch document to the text, in place. What each `add` and `replace` puts there holds the
-/// tokens of its value, as the text of the patch document has them. Returns `None` if that is not
-/// possible.
+/// Applies the patch document whose text is `given` to the text, in place. What each `add` and `replace`
+/// puts there holds the tokens of its value, as `given` has them. Returns `None` if that is not possible.
 ///
 /// # Errors
 ///
 /// [`AllocError`] if an allocation fails.
 pub fn patched_as_written(
-    alloc: Global,
+    buffers: &mut Buffers,
     text: &str,
-    patch: &str,
+    given: &str,
 ) -> Result<Option<String>, AllocError>
     ensures { IfOk result (λ new. IfSome new (λ s. (rs : List RawOperation)
-        × All (IsGivenIn patch.now) rs
+        × All (IsGivenIn given.now) rs
         × PatchesInText text.now (operations_in rs) (string_bytes s)
         × RawPatchBytes text.now rs (string_bytes s))) }
 {
-    let Some(operations) = as_written(alloc, patch)? else {
+    let Some(patch) = as_written(buffers.alloc, given)? else {
         return Ok(None);
     };
-    let mut buffers = Buffers::new(alloc);
-    try_apply_raw_in_place(alloc, &mut buffers, text, operations.as_slice())
+    match edit_text(buffers, text, &Edit::Patch(patch)) {
+        Ok(edited) => Ok(edited.in_place()),
+        Err(EditError::Memory(error)) => Err(error),
+        Err(_error) => Ok(None),
+    }
 }
 
-/// Returns the operations of the patch document, with the texts of their values, or `None` if it is not
-/// a patch.
-fn as_written(alloc: Global, patch: &str) -> Result<Option<Vec<RawOperation>>, AllocError>
+/// Returns the patch with this text, and with the texts of its values, or `None` if it is not a patch.
+fn as_written(alloc: Global, given: &str) -> Result<Option<PatchText>, AllocError>
     ensures { IfOk result (λ found. IfSome found
-        (λ operations. All (IsGivenIn patch.now) operations.items)) }
+        (λ p. All (IsGivenIn given.now) p.operations.items)) }
 {
-    let Some(document) = if_json(jsonptr_value::read(alloc, patch))? else {
+    let Some(document) = if_json(jsonptr_value::read(alloc, given))? else {
         return Ok(None);
     };
-    match read_patch(alloc, &document) {
-        Ok(operations) => {
-            let mut buffers = Buffers::new(alloc);
-            raw_operations(alloc, &mut buffers, patch, operations)
-        }
-        Err(Fault::Refused(_error)) => Ok(None),
-        Err(Fault::Memory(error)) => Err(error),
+    match PatchText::of(alloc, given, document) {
+        Ok(patch) => Ok(Some(patch)),
+        Err(PatchTextError::Memory(error)) => Err(error),
+        Err(_error) => Ok(None),
     }
 }

@@ -25,9 +25,9 @@ use jptr_tasks::paths::{run_build, run_list};
 use jptr_tasks::task::Task;
 use jptr_tasks::task_error::TaskError;
 use jsonptr::Pointer;
-use jsonptr_edit_in_text::RawValue;
 use jsonptr_paths::listing::Listed;
 use jsonptr_paths::text_listing::list_in_text;
+use jsonptr_text_edit::{Edit, RawValue};
 use jsonptr_value::ReadError;
 use std::alloc::Global;
 use std::io;
@@ -63,7 +63,7 @@ pub fn tag_each_line<R: io::BufRead, W: io::Write, E: io::Write>(
     ensures refused { IfErr result StopsRun }
 {
     let run = LineTask {
-        task: Task::Set(tag.pointer, tag.raw),
+        task: Task::Edit(Edit::Assign(tag.pointer, tag.raw)),
         layout: Layout::Kept,
         fallback: None,
         name: String::from_str(alloc, "log")?,

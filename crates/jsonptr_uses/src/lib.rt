@@ -15,7 +15,7 @@
 //! - [`sessions`]: calls on a document that is read from a text.
 //! - [`in_text`]: numbers and texts in the text of a document.
 //! - [`edits_in_text`]: two edits in the text of a document.
-//! - [`edits_in_place`]: edits of a text that change only their own bytes.
+//! - [`edits_in_place`]: edits of a text that change only their own bytes, if they are made in place.
 //! - [`settings_in_place`]: several settings of a text, each set in place or not at all.
 //! - [`exact_texts`]: a document with sorted members, if no number loses digits.
 //! - [`given_texts`]: a patch that is applied with the texts of its values.

@@ -1,17 +1,22 @@
 //! A setting that has another name in the next version of a program, in files with comments.
-ghost use Rattle.std.specs.Prelude.{◌≡◌, ◌⊎◌, IfOk, IfSome, MatchOption};
+ghost use Rattle.std.specs.Prelude.{◌≡◌, ◌⊎◌, IfOk, IfErr, IfSome, MatchOption};
 ghost use Rattle.jsonptr.specs.Pointer.{tokens};
+ghost use Rattle.jsonptr.specs.Text.{Text};
+ghost use Rattle.jsonptr_comments.specs.Comments.{IsWithoutComments};
+ghost use Rattle.jsonptr_edit_in_text.specs.EditInText.{LacksInText};
 ghost use Rattle.jsonptr_edit_in_text.specs.Renaming.{RenamesInText};
-ghost use Rattle.jsonptr_edit_with_comments.specs.EditWithComments.{Becomes, Lacks};
+ghost use Rattle.jsonptr_edit_with_comments.specs.EditWithComments.{Becomes};
 ghost use Rattle.jsonptr_edit_with_comments.specs.Edits.{IsRenaming};
 ghost use Rattle.jsonptr_text_edit.specs.Edited.{text_of, IfInPlace};
+ghost use Rattle.jsonptr_text_edit.specs.declared.edit.Edit.TheVariants.{Rename};
+ghost use Rattle.jsonptr_comments_edit.specs.Commented.{IsCommentedError};
 
 use jsonptr::Pointer;
 use jsonptr_comments_edit::{
     Buffers, CommentedText, Edit, EditError, Edited, RenameError, edit_commented,
 };
 
-/// Gives the setting its new name, which keeps its place, its value and all comments. Returns `None` if the file
+/// Renames the setting, which keeps its place, its value and all comments. Returns `None` if the file
 /// does not have the setting.
 ///
 /// # Errors
@@ -24,11 +29,13 @@ pub fn migrated(
     name: &str,
 ) -> Result<Option<Edited>, EditError>
     ensures migrated { IfOk result (λ o. MatchOption o
-        (Lacks file.now.text.now (tokens setting.entry))
+        ((old : Text) × IsWithoutComments file.now.text.now old × LacksInText old (tokens setting.entry))
         (λ e. Becomes (λ old new. RenamesInText old (tokens setting.entry) name.now new)
         file.now.text.now (text_of e))) }
     ensures in_place { IfOk result (λ o. IfSome o (IfInPlace (λ new.
         (new ≡ file.now.text.now) ⊎ IsRenaming file.now.text.now (tokens setting.entry) new))) }
+    ensures refused { IfErr result
+        (IsCommentedError file.now.text.now (Rename setting.entry name.entry)) }
 {
     match edit_commented(buffers, file, &Edit::Rename(setting, name)) {
         Ok(edited) => Ok(Some(edited)),

@@ -7,22 +7,25 @@ ghost use Rattle.jsonptr_in_text.specs.declared.format.Format.TheVariants.{Compa
 ghost use Rattle.jsonptr_edit_in_text.specs.Locating.{IsLocated, IsLocateError};
 
 use jsonptr::Pointer;
-use jsonptr_edit_in_text::{LocateError, locate_in_text};
-use jsonptr_in_text::{Format, Scratch, format_text};
+use jsonptr_in_text::{Format, format_text};
+use jsonptr_text_edit::{Buffers, LocateError, locate};
 use jsonptr_value::ReadError;
-use std::alloc::Global;
 
 /// Returns the offset, in bytes, at which the value that the pointer resolves to begins.
 ///
 /// # Errors
 ///
-/// Those of [`locate_in_text`].
-pub fn offset_of(alloc: Global, text: &str, pointer: Pointer<'_>) -> Result<usize, LocateError>
+/// Those of [`locate`].
+pub fn offset_of(
+    buffers: &mut Buffers,
+    text: &str,
+    pointer: Pointer<'_>,
+) -> Result<usize, LocateError>
     ensures offset { IfOk result (λ at. (before piece after : Text)
         × IsLocated text.now (tokens pointer.entry) before piece after × (at ≡ length before)) }
     ensures refused { IfErr result (IsLocateError text.now (tokens pointer.entry)) }
 {
-    let located = locate_in_text(alloc, text, pointer)?;
+    let located = locate(buffers, text, pointer)?;
     Ok(located.before.len())
 }
 
@@ -31,16 +34,24 @@ pub fn offset_of(alloc: Global, text: &str, pointer: Pointer<'_>) -> Result<usiz
 ///
 /// # Errors
 ///
-/// Those of [`locate_in_text`].
-pub fn on_one_line(alloc: Global, text: &str, pointer: Pointer<'_>) -> Result<String, LocateError>
+/// Those of [`locate`].
+pub fn on_one_line(
+    buffers: &mut Buffers,
+    text: &str,
+    pointer: Pointer<'_>,
+) -> Result<String, LocateError>
     ensures shown { IfOk result (λ s. (before piece after : Text)
         × IsLocated text.now (tokens pointer.entry) before piece after
         × IsFormatted Compact piece (string_bytes s)) }
     ensures refused { IfErr result (IsLocateError text.now (tokens pointer.entry)) }
 {
-    let located = locate_in_text(alloc, text, pointer)?;
-    let mut scratch = Scratch::new(alloc);
-    match format_text(alloc, &mut scratch, located.value, Format::Compact) {
+    let located = locate(buffers, text, pointer)?;
+    match format_text(
+        buffers.alloc,
+        &mut buffers.old,
+        located.value,
+        Format::Compact,
+    ) {
         Ok(line) => Ok(line),
         Err(ReadError::NotJson) => Err(LocateError::NotJson),
         Err(ReadError::Memory(error)) => Err(LocateError::Memory(error)),

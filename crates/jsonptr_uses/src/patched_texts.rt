@@ -9,12 +9,12 @@ ghost use Rattle.jptr_tasks.specs.Results.{PatchesBytesInLayout};
 ghost use Rattle.jptr_tasks.specs.declared.layout.Layout.TheVariants.{Kept};
 
 use jptr_tasks::inverse::inverse_of;
-use jptr_tasks::laws::printed_inverse_law;
+use jptr_tasks::laws::{patch_law, printed_inverse_law};
 use jptr_tasks::layout::Layout;
 use jptr_tasks::result::result_in_text;
 use jptr_tasks::task::Task;
 use jptr_tasks::task_error::TaskError;
-use jsonptr_text_value::PatchText;
+use jsonptr_text_edit::{Edit, PatchText};
 use std::alloc::Global;
 
 /// The text of a document after a patch, and the text of a patch that takes it back.
@@ -31,7 +31,7 @@ pub struct PatchedText {
 ///
 /// # Errors
 ///
-/// Those of [`inverse_of`] and of [`Task::Patch`].
+/// Those of [`inverse_of`] and of [`Edit::Patch`].
 pub fn patched_text(alloc: Global, text: &str, patch: PatchText) -> Result<PatchedText, TaskError>
     ensures applied { IfOk result (λ p.
         PatchesBytesInLayout text.now (view patch.document) Kept (string_bytes p.new)) }
@@ -41,9 +41,10 @@ pub fn patched_text(alloc: Global, text: &str, patch: PatchText) -> Result<Patch
         → read text.now ≡ Some d → read (string_bytes p.undo) ≡ Some back
         → PatchesBytesInLayout (string_bytes p.new) back Kept again → read again ≡ Some d) }
 {
+    patch_law();
     printed_inverse_law();
     let inverse = inverse_of(alloc, text, &patch.document, Layout::Compact)?;
-    let task = Task::Patch(patch);
+    let task = Task::Edit(Edit::Patch(patch));
     let new = result_in_text(alloc, text, &task, Layout::Kept)?;
     let undo = inverse.text;
     Ok(PatchedText { new, undo })

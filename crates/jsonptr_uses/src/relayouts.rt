@@ -5,8 +5,7 @@ ghost use Rattle.serde_json.specs.Read.{read};
 ghost use Rattle.jsonptr.specs.Json.{nodes};
 ghost use Rattle.jsonptr_relayout.specs.Relaying.{ReadsAs, IsRelayoutTextError};
 
-use jsonptr_relayout::{Relaid, RelayoutTextError, relayout_text};
-use std::alloc::Global;
+use jsonptr_relayout::{Buffers, Relaid, RelayoutTextError, relayout_text};
 
 /// Returns the text of a file after another program printed its document anew, in the layout that
 /// the file had.
@@ -14,12 +13,16 @@ use std::alloc::Global;
 /// # Errors
 ///
 /// Those of [`relayout_text`].
-pub fn restored(alloc: Global, file: &str, printed: &str) -> Result<String, RelayoutTextError>
+pub fn restored(
+    buffers: &mut Buffers,
+    file: &str,
+    printed: &str,
+) -> Result<String, RelayoutTextError>
     ensures reads { IfOk result (λ s. (d : Data) × (read printed.now ≡ Some d)
         × ReadsAs (string_bytes s) (nodes d)) }
     ensures refused { IfErr result (IsRelayoutTextError file.now printed.now) }
 {
-    match relayout_text(alloc, file, printed)? {
+    match relayout_text(buffers, file, printed)? {
         Relaid::Kept(text) => Ok(text),
         Relaid::Rewritten(text) => Ok(text),
     }

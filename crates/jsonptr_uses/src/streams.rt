@@ -11,14 +11,15 @@ ghost use Rattle.jsonptr_edit_in_text.specs.EditInText.{AssignsInText};
 ghost use Rattle.jsonptr_io.specs.Streams.{ForInput};
 ghost use Rattle.jptr_tasks.specs.Documents.{StopsDocument};
 ghost use Rattle.jptr_tasks.specs.declared.layout.Layout.TheVariants.{Kept};
-ghost use Rattle.jptr_tasks.specs.declared.task.Task.TheVariants.{Set};
+ghost use Rattle.jptr_tasks.specs.declared.task.Task.TheVariants as task;
+ghost use Rattle.jsonptr_text_edit.specs.declared.edit.Edit.TheVariants.{Assign};
 
 use jptr_tasks::document::run_document;
 use jptr_tasks::layout::Layout;
 use jptr_tasks::task::Task;
 use jptr_tasks::task_error::TaskError;
 use jsonptr::Pointer;
-use jsonptr_edit_in_text::RawValue;
+use jsonptr_text_edit::{Edit, RawValue};
 use std::alloc::Global;
 use std::io;
 
@@ -40,10 +41,10 @@ pub fn set_in_stream<R: io::Read, W: io::Write>(
         × AssignsBytes bytes (tokens pointer.entry) (value_of_raw raw) out
         × AssignsGiven bytes (tokens pointer.entry) raw out
         × Appends (W.contents output.old) (W.contents output.new) out)) }
-    ensures refused { IfErr result (StopsDocument (Set pointer.entry raw) Kept
+    ensures refused { IfErr result (StopsDocument (task.Edit (Assign pointer.entry raw)) Kept
         (R.remaining input.old) (W.contents output.old) (W.contents output.new)) }
 {
-    let task = Task::Set(pointer, raw);
+    let task = Task::Edit(Edit::Assign(pointer, raw));
     let mut bytes = Vec::new(alloc);
     run_document(&task, Layout::Kept, input, &mut bytes, output)
 }
