@@ -46,8 +46,8 @@ mod toml_text;
 mod undos;
 mod words;
 
-use jsonptr_edit_in_text::Buffers;
 use jsonptr_in_text::Scratch;
+use jsonptr_text_edit::Buffers;
 use out::Out;
 use std::env;
 use std::io::{self, BufRead, BufReader};
@@ -103,7 +103,7 @@ fn answer(out: &mut Out<'_>, buffers: &mut Buffers, scratch: &mut Scratch, mut w
         "comments" => comments::request(out, buffers, words),
         "merge" => merges::request(out, words),
         "patch" => patches::round(out, words),
-        "relayout" => relayouts::request(out, words),
+        "relayout" => relayouts::request(out, buffers, words),
         request => requests::run(out, request, words),
     }
     out.end_request()

@@ -1,13 +1,13 @@
 //! Documents in the layout of an older text.
 use crate::out::Out;
 use crate::words::Words;
-use jsonptr_relayout::{Relaid, relayout_text};
+use jsonptr_relayout::{Buffers, Relaid, relayout_text};
 
 /// Lays a document out, and writes the kind of the result and the text.
-pub fn request(out: &mut Out<'_>, mut words: Words<'_>) {
+pub fn request(out: &mut Out<'_>, buffers: &mut Buffers, mut words: Words<'_>) {
     let old = words.next();
     let new = words.next();
-    match relayout_text(out.alloc(), old, new) {
+    match relayout_text(buffers, old, new) {
         Ok(Relaid::Kept(text)) => {
             out.field("kind", "kept");
             out.field("detail", text)

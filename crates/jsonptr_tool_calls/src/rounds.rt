@@ -3,7 +3,7 @@ use crate::out::Out;
 use crate::text_edits::{Request, change, edit};
 use crate::toml_edits;
 use crate::words::Words;
-use jsonptr_edit_in_text::Buffers;
+use jsonptr_text_edit::Buffers;
 use serde_json::Value;
 
 /// Makes an edit so many times, and writes how long the new texts are in all: the way, the name of

@@ -3,13 +3,10 @@ use crate::out::Out;
 use crate::patches::operations;
 use crate::words::Words;
 use jsonptr::{Fault, Pointer};
-use jsonptr_edit_in_text::{
-    Buffers, EditError, Edited, apply_in_text, apply_in_text_with, assign_in_text,
-    assign_in_text_with, delete_in_text, delete_in_text_with,
-};
-use jsonptr_patch::{Comparison, FailedOperation, PatchError, apply_comparing};
-use jsonptr_value::ReadError;
+use jsonptr_patch::{Comparison, Operation, apply_comparing};
+use jsonptr_text_edit::{Buffers, Edit, EditError, Edited, PatchText, RawValue, edit_text};
 use serde_json::Value;
+use std::alloc::Global;
 use std::fmt::{Debug, Display};
 
 /// Runs a case of a call: the text, and the arguments. Writes the text before and after it.
@@ -33,52 +30,79 @@ fn run_at(out: &mut Out<'_>, group: &str, text: &str, pointer: Pointer<'_>, valu
     match (group, Value::from_str(alloc, value)) {
         ("delete in text", _) => {
             out.begin();
-            match delete_in_text(alloc, text, pointer) {
-                Ok(Some(edited)) => said(out, edited),
-                Ok(None) => out.nothing(),
-                Err(error) => out.said(error),
-            }
+            made(out, edited_in(alloc, text, Ok(Edit::Delete(pointer))))
         }
         ("assign in text", Ok(value)) => {
             out.begin();
-            made(out, assign_in_text(alloc, text, pointer, value))
+            made(
+                out,
+                edited_in(alloc, text, assignment(alloc, pointer, &value)),
+            )
         }
-        (_, Ok(value)) => assign_twice(out, text, pointer, value),
+        (_, Ok(value)) => assign_twice(out, text, pointer, &value),
         _ => out.unknown(),
     }
 }
 
 /// Assigns a value twice with the same buffers. The first result is dropped, also if an allocation
 /// failed.
-fn assign_twice(out: &mut Out<'_>, text: &str, pointer: Pointer<'_>, value: Value) {
+fn assign_twice(out: &mut Out<'_>, text: &str, pointer: Pointer<'_>, value: &Value) {
     let alloc = out.alloc();
-    let Ok(first) = value.clone() else {
-        return out.memory();
-    };
     out.begin();
     let mut buffers = Buffers::new(alloc);
-    drop(assign_in_text_with(alloc, &mut buffers, text, pointer, first));
-    made(
-        out,
-        assign_in_text_with(alloc, &mut buffers, text, pointer, value),
-    )
+    match assignment(alloc, pointer, value) {
+        Ok(edit) => {
+            drop(edit_text(&mut buffers, text, &edit));
+            made(out, edit_text(&mut buffers, text, &edit))
+        }
+        Err(error) => out.said(error),
+    }
 }
 
 /// Applies a patch document.
 fn patch(out: &mut Out<'_>, text: &str, patch: &str) {
-    match operations(out.alloc(), patch) {
+    let alloc = out.alloc();
+    match operations(alloc, patch) {
         Some(operations) => {
             out.begin();
-            made(out, apply_in_text(out.alloc(), text, operations))
+            made(out, edited_in(alloc, text, patch_of(alloc, operations)))
         }
         None => out.unknown(),
     }
 }
 
+/// Returns the assignment of a value, which is printed.
+fn assignment<'a>(
+    alloc: Global,
+    pointer: Pointer<'a>,
+    value: &Value,
+) -> Result<Edit<'a>, EditError> {
+    match RawValue::from_value(alloc, value)? {
+        Some(raw) => Ok(Edit::Assign(pointer, raw)),
+        None => Err(EditError::TooDeep),
+    }
+}
+
+/// Returns the patch of the operations, whose values are printed.
+fn patch_of(alloc: Global, operations: Vec<Operation>) -> Result<Edit<'static>, EditError> {
+    Ok(Edit::Patch(PatchText::from_operations(alloc, operations)?))
+}
+
+/// Makes an edit in a text, in buffers of its own.
+fn edited_in(
+    alloc: Global,
+    text: &str,
+    edit: Result<Edit<'_>, EditError>,
+) -> Result<Edited, EditError> {
+    let edit = edit?;
+    edit_text(&mut Buffers::new(alloc), text, &edit)
+}
+
 /// Writes the result of an edit.
-fn made<E: Display + Drop>(out: &mut Out<'_>, made: Result<Edited, EditError<E>>) {
+fn made(out: &mut Out<'_>, made: Result<Edited, EditError>) {
     match made {
         Ok(edited) => said(out, edited),
+        Err(EditError::NotThere) => out.nothing(),
         Err(error) => out.said(error),
     }
 }
@@ -91,24 +115,24 @@ fn said(out: &mut Out<'_>, edited: Edited) {
             out.show("in place ");
             out.line(text)
         }
-        Edited::Rewritten(text) => {
+        Edited::Reprinted(text) => {
             out.show("rewritten ");
             out.line(text)
         }
     }
 }
 
-/// An edit that is asked for: `assign` or `delete` at a pointer, or `apply`, with the value or the
-/// patch document.
+/// An edit that is asked for: `assign`, `delete` or `rename` at a pointer, or `apply`, with the value, the
+/// key or the patch document.
 #[derive(Clone, Copy)]
 pub struct Request<'a> {
     /// The name of the edit.
     pub command: &'a str,
     /// The text.
     pub text: &'a str,
-    /// The pointer, of `assign` and `delete`.
+    /// The pointer, except of `apply`.
     pub pointer: &'a str,
-    /// The value of `assign`, and the patch document of `apply`, as JSON.
+    /// The value of `assign` and the patch document of `apply`, as JSON, or the key of `rename`.
     pub argument: &'a str,
 }
 
@@ -135,68 +159,30 @@ pub fn compare(out: &mut Out<'_>, buffers: &mut Buffers, mut words: Words<'_>) {
 
 /// Makes an edit in a text, and returns the new text. Without one, writes why.
 pub fn edit(out: &mut Out<'_>, buffers: &mut Buffers, request: Request<'_>) -> Option<String> {
-    let Request {
-        command,
-        text,
-        pointer,
-        argument,
-    } = request;
-    let alloc = out.alloc();
-    match command {
-        "assign" => {
-            let pointer = Pointer::parse(pointer).ok()?;
-            let value = Value::from_str(alloc, argument).ok()?;
-            edited(
-                out,
-                assign_in_text_with(alloc, buffers, text, pointer, value),
-            )
-        }
-        "delete" => {
-            let pointer = Pointer::parse(pointer).ok()?;
-            match delete_in_text_with(alloc, buffers, text, pointer) {
-                Ok(Some(made)) => Some(new_text(out, made)),
-                Ok(None) => {
-                    kind(out, "kind", "none");
-                    None
-                }
-                Err(error) => {
-                    unread(out, error);
-                    None
-                }
-            }
-        }
-        _ => {
-            let operations = operations(alloc, argument)?;
-            let made = apply_in_text_with(alloc, buffers, text, operations);
-            edited(out, without_pointer(made))
-        }
-    }
-}
-
-/// Returns the result of a patch without the pointer at fault, which [`apply_comparing`] does not name.
-fn without_pointer(
-    edited: Result<Edited, EditError<FailedOperation>>,
-) -> Result<Edited, EditError<PatchError>> {
-    match edited {
-        Ok(edited) => Ok(edited),
-        Err(EditError::NotJson) => Err(EditError::NotJson),
-        Err(EditError::TooDeep) => Err(EditError::TooDeep),
-        Err(EditError::Refused(failed)) => Err(EditError::Refused(failed.error)),
-        Err(EditError::Memory(error)) => Err(EditError::Memory(error)),
-    }
-}
-
-/// Writes the kind of the result of an edit, or the error. Returns the new text.
-fn edited<E: Display + Debug + Drop>(
-    out: &mut Out<'_>,
-    edited: Result<Edited, EditError<E>>,
-) -> Option<String> {
-    match edited {
+    let edit = edit_of(out.alloc(), request)?;
+    match edit_text(buffers, request.text, &edit) {
         Ok(edited) => Some(new_text(out, edited)),
         Err(error) => {
             failed(out, error);
             None
         }
+    }
+}
+
+/// Returns the edit that is asked for, or `None` if its arguments are none. Its values are printed.
+pub fn edit_of<'a>(alloc: Global, request: Request<'a>) -> Option<Edit<'a>> {
+    match request.command {
+        "assign" => {
+            let pointer = Pointer::parse(request.pointer).ok()?;
+            let value = Value::from_str(alloc, request.argument).ok()?;
+            assignment(alloc, pointer, &value).ok()
+        }
+        "delete" => Some(Edit::Delete(Pointer::parse(request.pointer).ok()?)),
+        "rename" => {
+            let pointer = Pointer::parse(request.pointer).ok()?;
+            Some(Edit::Rename(pointer, request.argument))
+        }
+        _ => patch_of(alloc, operations(alloc, request.argument)?).ok(),
     }
 }
 
@@ -207,32 +193,31 @@ fn new_text(out: &mut Out<'_>, edited: Edited) -> String {
             kind(out, "kind", "in place");
             text
         }
-        Edited::Rewritten(text) => {
+        Edited::Reprinted(text) => {
             kind(out, "kind", "rewritten");
             text
         }
     }
 }
 
-/// Writes why a text is not read.
-fn unread(out: &mut Out<'_>, error: ReadError) {
+/// Writes why an edit in a text fails. Of a patch it is the error without the pointer at fault, which
+/// [`apply_comparing`] does not name.
+fn failed(out: &mut Out<'_>, error: EditError) {
     match error {
-        ReadError::NotJson => kind(out, "kind", "not JSON"),
-        ReadError::Memory(_) => out.memory(),
+        EditError::NotJson => kind(out, "kind", "not JSON"),
+        EditError::NotThere => kind(out, "kind", "none"),
+        EditError::TooDeep => kind(out, "kind", "too deep"),
+        EditError::Assign(error) => not_made(out, &error),
+        EditError::Rename(error) => not_made(out, &error),
+        EditError::Patch(failed) => not_made(out, &failed.error),
+        EditError::Memory(_) => out.memory(),
     }
 }
 
-/// Writes why an edit in a text fails.
-fn failed<E: Display + Debug + Drop>(out: &mut Out<'_>, error: EditError<E>) {
-    match error {
-        EditError::NotJson => kind(out, "kind", "not JSON"),
-        EditError::TooDeep => kind(out, "kind", "too deep"),
-        EditError::Refused(error) => {
-            kind(out, "kind", "refused");
-            refused(out, "detail", &error)
-        }
-        EditError::Memory(_) => out.memory(),
-    }
+/// Writes that an edit fails, and its error.
+fn not_made<E: Display + Debug>(out: &mut Out<'_>, error: &E) {
+    kind(out, "kind", "refused");
+    refused(out, "detail", error)
 }
 
 /// Writes the kind of a result. While edits are timed it writes nothing.

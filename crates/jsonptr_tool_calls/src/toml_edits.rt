@@ -3,9 +3,7 @@ use crate::out::Out;
 use crate::text_edits::Request;
 use crate::words::Words;
 use jsonptr::Pointer;
-use jsonptr_edit_in_toml::{Edited, assign_in_toml, delete_in_toml};
-use jsonptr_in_toml::EditTomlError;
-use std::fmt::Display;
+use jsonptr_edit_in_toml::{Edited, TomlEdit, TomlEditError, edit_toml};
 use toml::Value;
 
 /// Runs a case of a call: the text, the pointer and the value. Writes the text before and after it.
@@ -17,14 +15,15 @@ pub fn run(out: &mut Out<'_>, group: &str, mut words: Words<'_>) {
     match (group, pointer, value) {
         ("delete in toml", Ok(pointer), _) => {
             out.begin();
-            match delete_in_toml(out.alloc(), text, pointer).transpose() {
-                Some(made) => said(out, made),
-                None => out.nothing(),
+            match edit_toml(out.alloc(), text, &TomlEdit::Delete(pointer)) {
+                Err(TomlEditError::NotThere) => out.nothing(),
+                made => said(out, made),
             }
         }
         (_, Ok(pointer), Ok(value)) => {
+            let edit = TomlEdit::AssignValue(pointer, value);
             out.begin();
-            said(out, assign_in_toml(out.alloc(), text, pointer, value))
+            said(out, edit_toml(out.alloc(), text, &edit))
         }
         _ => out.unknown(),
     }
@@ -33,14 +32,14 @@ pub fn run(out: &mut Out<'_>, group: &str, mut words: Words<'_>) {
 }
 
 /// Writes the result of an edit.
-fn said<E: Display + Drop>(out: &mut Out<'_>, made: Result<Edited, EditTomlError<E>>) {
+fn said(out: &mut Out<'_>, made: Result<Edited, TomlEditError>) {
     out.end();
     match made {
         Ok(Edited::InPlace(text)) => {
             out.show("in place ");
             out.line(text)
         }
-        Ok(Edited::Rewritten(text)) => {
+        Ok(Edited::Reprinted(text)) => {
             out.show("rewritten ");
             out.line(text)
         }
@@ -56,26 +55,29 @@ pub fn request(out: &mut Out<'_>, mut words: Words<'_>) {
     let pointer = Pointer::parse(words.next());
     let value = Value::from_str(alloc, words.next());
     match (command, pointer, value) {
-        ("delete", Ok(pointer), _) => made(out, delete_in_toml(alloc, text, pointer)),
+        ("delete", Ok(pointer), _) => made(out, edit_toml(alloc, text, &TomlEdit::Delete(pointer))),
         (_, Ok(pointer), Ok(value)) => {
-            made(out, assign_in_toml(alloc, text, pointer, value).map(Some))
+            made(
+                out,
+                edit_toml(alloc, text, &TomlEdit::AssignValue(pointer, value)),
+            )
         }
         _ => out.unknown(),
     }
 }
 
 /// Writes the kind of the result of an edit, and the new text or the error.
-fn made<E: Display + Drop>(out: &mut Out<'_>, made: Result<Option<Edited>, EditTomlError<E>>) {
+fn made(out: &mut Out<'_>, made: Result<Edited, TomlEditError>) {
     match made {
-        Ok(Some(Edited::InPlace(text))) => {
+        Ok(Edited::InPlace(text)) => {
             out.field("kind", "in place");
             out.field("detail", text)
         }
-        Ok(Some(Edited::Rewritten(text))) => {
+        Ok(Edited::Reprinted(text)) => {
             out.field("kind", "rewritten");
             out.field("detail", text)
         }
-        Ok(None) => out.field("kind", "none"),
+        Err(TomlEditError::NotThere) => out.field("kind", "none"),
         Err(error) => {
             out.field("kind", "refused");
             out.field("detail", error)
@@ -84,12 +86,13 @@ fn made<E: Display + Drop>(out: &mut Out<'_>, made: Result<Option<Edited>, EditT
 }
 
 /// Makes an edit in a text. Returns `None` if there is no new text.
-pub fn edit(out: &mut Out<'_>, request: Request<'_>) -> Option<Edited> {
+pub fn edit(out: &mut Out<'_>, request: Request<'_>) -> Option<String> {
     let alloc = out.alloc();
     let pointer = Pointer::parse(request.pointer).ok()?;
-    if request.command == "delete" {
-        return delete_in_toml(alloc, request.text, pointer).ok()?;
-    }
-    let value = Value::from_str(alloc, request.argument).ok()?;
-    assign_in_toml(alloc, request.text, pointer, value).ok()
+    let edit = if request.command == "delete" {
+        TomlEdit::Delete(pointer)
+    } else {
+        TomlEdit::AssignValue(pointer, Value::from_str(alloc, request.argument).ok()?)
+    };
+    Some(edit_toml(alloc, request.text, &edit).ok()?.or_reprinted())
 }
