@@ -1,4 +1,6 @@
-"""Checks `./vendor`: it puts the library into an empty folder where the example runs, and it changes nothing else."""
+"""Checks `./vendor`: it puts the library into an empty folder where the example runs, and it changes nothing else. Also makes
+the program of the page of edits (`docs/EDITING.md`), as the page says, and runs it.
+"""
 import os
 import re
 import subprocess
@@ -6,6 +8,8 @@ import sys
 import tempfile
 
 TOP = os.path.dirname(os.path.dirname(os.path.abspath(__file__)))
+PAGE = f"{TOP}/docs/EDITING.md"
+BLOCK = re.compile(r"^```(\w+)\n(.*?)^```$", re.MULTILINE | re.DOTALL)
 EXTRAS = ["value", "numbers", "tabled", "fragment", "session", "patch", "patch_document", "diff", "merge", "in_text", "text_value", "edit_in_text", "text_edit", "relayout", "io", "paths", "jptr_tasks", "in_toml", "edit_in_toml", "comments", "edit_with_comments", "comments_edit", "laws", "c_calls"]
 
 
@@ -77,6 +81,19 @@ def check_lines(folder):
         check(f"    {line}\n" in vendor(other, "diff"), "./vendor prints another line for a first crate")
 
 
+def check_old_calls():
+    """Checks that calls of the last release are named in a crate of the user's, each with the new one."""
+    with tempfile.TemporaryDirectory() as folder:
+        vendor(folder, "--example")
+        source = f"{folder}/crates/app/src/old.rt"
+        with open(source, "w", encoding="utf-8") as file:
+            file.write("use jsonptr_edit_in_text::{apply_raw_in_place, assign_in_text, locate_in_text};\n")
+        written = vendor(folder, "text_edit")
+        for old, new in (("apply_raw_in_place", "edit_text"), ("locate_in_text", "locate")):
+            check(f"{source}:1: {old} is gone: use {new} of jsonptr_text_edit\n" in written, f"./vendor does not name {old}")
+        check(written.count(" is gone") == 2, f"./vendor names another call:\n{written}")
+
+
 def check_refusals(folder):
     """Checks that nothing changes if a crate that is there differs, or if the folder is in this repository."""
     with open(f"{folder}/crates/jsonptr_syntax/src/lib.rt", "a", encoding="utf-8") as file:
@@ -91,7 +108,27 @@ def check_refusals(folder):
     check("FOLDER is missing" in vendor(status=2), "./vendor alone does not say what is missing")
 
 
+def check_page():
+    """Makes the program of the page of edits from the first block of each kind, and checks what it prints."""
+    with open(PAGE, encoding="utf-8") as file:
+        first = dict(reversed(BLOCK.findall(file.read())))
+    command, (line, written) = first["sh"].split(), first["console"].split("\n", 1)
+    with tempfile.TemporaryDirectory() as folder:
+        vendor(folder, *command[2:])
+        with open(f"{folder}/crates.txt", encoding="utf-8") as file:
+            check(file.read().endswith(f"\n{first['text']}"), f"the line of app is not {first['text']}")
+        app = f"{folder}/crates/app"
+        for name, kind in (("src/main.rt", "rust"), ("settings.json", "json")):
+            with open(f"{app}/{name}", "w", encoding="utf-8") as file:
+                file.write(first[kind])
+        words = line.removeprefix("$ ").split()
+        run = subprocess.run(words, cwd=app, stdin=subprocess.DEVNULL, capture_output=True, encoding="utf-8")
+        check(run.returncode == 0 and written in run.stdout, f"{line} of EDITING:\n{run.stdout}{run.stderr}")
+
+
 def main():
+    check_old_calls()
+    check_page()
     with tempfile.TemporaryDirectory() as temporary:
         folder = os.path.realpath(temporary)
         vendor(folder, "diff", "--example")
@@ -103,7 +140,7 @@ def main():
         check_extras(folder)
         check_links(folder)
         check_refusals(folder)
-    print("check_vendor: the example runs from an empty folder, and what is there stays unchanged")
+    print("check_vendor: the example, and the program of EDITING, run from an empty folder, and what is there stays unchanged")
 
 
 if __name__ == "__main__":

@@ -2,8 +2,9 @@
 """Checks that the code that readers copy from the guide and the READMEs was proved or run.
 
 Each code block of the guide (`crates/jsonptr/CALLING.md`), and each example of a doc comment that is an item, must be in a
-caller, line by line. Each Rust block of a README must be in a caller, in a test or in an example of a doc comment. Each
-contract that the README or PROVED shows must be in a source file.
+caller, line by line. Each Rust block of a README, and of the page of edits (`docs/EDITING.md`), must be in a caller, in a test
+or in an example of a doc comment; `check_vendor.py` runs the program of that page. Each contract that the README or PROVED
+shows must be in a source file.
 """
 import glob
 import re
@@ -14,6 +15,7 @@ import repository
 import try_tests
 
 GUIDE = f"{repository.CRATES}/jsonptr/CALLING.md"
+EDITING = f"{repository.TOP}/docs/EDITING.md"
 CALLERS = "jsonptr_conditions", "jsonptr_uses", "jsonptr_example"
 BLOCK = re.compile(r"^```(?:rust|text)\n(.*?)^```$", re.MULTILINE | re.DOTALL)
 CODE = re.compile(r"^```rust\n(.*?)^```$", re.MULTILINE | re.DOTALL)
@@ -51,11 +53,13 @@ def main():
     tests = [lines(repository.read(f)) for f in paths] + [lines(code) for code in codes]
     readmes = [f"{repository.TOP}/README.md", *sorted(glob.glob(f"{repository.CRATES}/*/README.md"))]
     guide = check(BLOCK.findall(repository.read(GUIDE)) + items, callers)
-    shown = check([block for f in readmes for block in CODE.findall(repository.read(f))], callers + tests)
+    blocks = [block for f in readmes for block in CODE.findall(repository.read(f))]
+    blocks += [block for block in CODE.findall(repository.read(EDITING)) if "\nfn main(" not in block]
+    shown = check(blocks, callers + tests)
     sources = [lines(repository.read(f)) for f in files("*", "rt")]
     shown_contracts = [block for f in PAGES for block in CONTRACT.findall(repository.read(f))]
     contracts = check([part for block in shown_contracts for part in CLAUSES.split(block) if part], sources)
-    print(f"code_blocks: {guide + shown} code blocks of the guide and the READMEs are in a caller or a test")
+    print(f"code_blocks: {guide + shown} code blocks of the guides and the READMEs are in a caller or a test")
     print(f"code_blocks: {contracts} contracts of the README and PROVED are in a source")
 
 
