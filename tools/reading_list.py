@@ -14,7 +14,7 @@ TOP = os.path.dirname(os.path.dirname(os.path.abspath(__file__)))
 CRATES = f"{TOP}/crates"
 HEADLINE = [("jsonptr_session/src/session.rt", ["run_json", "run_toml"])]
 UNDO = ["assign_with_undo", "undo"]
-EDITS = ["assign", "delete", "apply"]
+EDITS = ["assign", "delete", "rename", "apply"]
 OTHERS = {
     "undo": [("jsonptr_session/src/undo/json.rt", UNDO), ("jsonptr_session/src/undo/toml_value.rt", UNDO)],
     "a report that is drawn": [("jsonptr_diagnostic/src/rendering.rt", ["render"])],
@@ -52,12 +52,13 @@ OTHERS = {
     ],
     "edits in text": [
         *((f"jsonptr_edit_in_text/src/{it}.rt", [f"{it}_in_text"]) for it in EDITS),
-        ("jsonptr_edit_in_text/src/in_place.rt", [*(f"{it}_in_place" for it in EDITS), "assign_raw_in_place", "apply_raw_in_place"]),
-        ("jsonptr_edit_in_text/src/rename.rt", ["rename_in_text"]),
-        ("jsonptr_edit_in_text/src/locate.rt", ["locate_in_text"]),
+        ("jsonptr_edit_in_text/src/find.rt", ["locate"]),
     ],
     "one edit of a text": [("jsonptr_text_edit/src/text.rt", ["edit_text"])],
-    "one edit of a text with comments": [("jsonptr_comments_edit/src/commented.rt", ["edit_commented"])],
+    "one edit of a text with comments": [
+        ("jsonptr_comments_edit/src/commented.rt", ["edit_commented"]),
+        ("jsonptr_comments_edit/src/editor.rt", ["edit_in_place"]),
+    ],
     "documents as lines": [
         ("jsonptr_paths/src/listing.rt", ["list"]),
         ("jsonptr_paths/src/text_listing.rt", ["list_in_text"]),
@@ -66,10 +67,7 @@ OTHERS = {
     ],
     "JSON with comments": [
         ("jsonptr_comments/src/comments.rt", ["without_comments"]),
-        ("jsonptr_edit_with_comments/src/assign.rt", ["assign_with_comments", "assign_raw_with_comments"]),
-        ("jsonptr_edit_with_comments/src/delete.rt", ["delete_with_comments"]),
-        ("jsonptr_edit_with_comments/src/rename.rt", ["rename_with_comments"]),
-        ("jsonptr_edit_with_comments/src/apply.rt", ["apply_with_comments", "apply_raw_with_comments", "try_apply_raw_with_comments"]),
+        *((f"jsonptr_edit_with_comments/src/{it}.rt", [f"{it}_with_comments"]) for it in EDITS),
     ],
     "numbers that lose digits": [
         ("jsonptr_numbers/src/find.rt", ["find_lost"]),
@@ -79,12 +77,8 @@ OTHERS = {
     "layouts": [("jsonptr_relayout/src/layout.rt", ["relayout", "relayout_with_texts", "relayout_text"])],
     "TOML text": [("jsonptr_in_toml/src/change.rt", ["resolve_in_toml", "assign_and_print_toml", "delete_and_print_toml"])],
     "edits in TOML text": [
-        ("jsonptr_edit_in_toml/src/assign.rt", ["assign_in_toml"]),
-        ("jsonptr_edit_in_toml/src/assign_raw.rt", ["assign_raw_in_toml", "assign_raw_in_toml_in_place"]),
+        ("jsonptr_edit_in_toml/src/text.rt", ["edit_toml"]),
         ("jsonptr_edit_in_toml/src/raw_value.rt", ["parse"]),
-        ("jsonptr_edit_in_toml/src/rename.rt", ["rename_in_toml", "rename_in_toml_in_place"]),
-        ("jsonptr_edit_in_toml/src/delete.rt", ["delete_in_toml"]),
-        ("jsonptr_edit_in_toml/src/in_place.rt", ["assign_in_toml_in_place", "delete_in_toml_in_place"]),
     ],
     "commands on texts and lines": [
         ("jptr_tasks/src/result.rt", ["result_in_text"]),
