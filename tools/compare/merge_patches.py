@@ -6,7 +6,7 @@
 PROGRAM is the built program of crates/jsonptr_tool_calls. It needs Debian's packages golang-go and
 golang-github-evanphx-json-patch-dev. Each difference has to be one of these two, of the other library:
 
-- it refuses a document that is a scalar, and a patch that is one, at the root;
+- it returns an error for a document that is a scalar, and for a patch that is one, at the root;
 - it leaves out what is `null` in an array of the patch, as an element or as a member. The RFC says that an array replaces what
   was there.
 """
@@ -61,7 +61,7 @@ def is_container(text):
 def difference(case, one, other):
     """Returns which of the known differences it is in which the results differ, or none."""
     if other == "-":
-        return None if all(map(is_container, case)) else "a scalar at the root is refused"
+        return None if all(map(is_container, case)) else "a scalar at the root is an error"
     if without_nulls(json.loads(one)) == without_nulls(json.loads(other)):
         return "null is left out of an array"
     return None
