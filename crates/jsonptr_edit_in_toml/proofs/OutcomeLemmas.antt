@@ -1,31 +1,29 @@
 -- An edit of a TOML text has one error.
-use Rattle.std.proofs.Common.{◌≡◌, ◌⊎◌, inl, inr, List, [], ◌∷◌, ◌++◌, Option, None, IsSome, true≢false, refl, sym, ap, ◌∙◌, subst}
+use Rattle.std.proofs.Common.{◌≡◌, ◌⊎◌, inl, inr, List, [], ◌∷◌, ◌++◌, Option, None, refl, sym, ap, ◌∙◌, subst}
 use Rattle.std.specs.Bool.{⊤}
 use Rattle.std.specs.declared.convert.Infallible.{Infallible}
 use Rattle.toml.specs.Data.{Data}
 use Rattle.toml.specs.Parse.{parse_document}
 use Rattle.toml.specs.View.{view}
-use Rattle.jsonptr.proofs.Calling.{map_of-IsTree, Names_one_path}
+use Rattle.jsonptr.proofs.Calling.{map_of-IsTree}
 use Rattle.jsonptr.proofs.TomlCalling.{nodes_one}
 use Rattle.jsonptr.specs.Assign.{RefusesAssign}
 use Rattle.jsonptr.specs.Assigning.{Assigns}
-use Rattle.jsonptr.specs.Node.{NodeMap, Names, IsTree, Path, key}
+use Rattle.jsonptr.specs.Node.{NodeMap, IsTree}
 use Rattle.jsonptr.specs.Pointer.{tokens}
 use Rattle.jsonptr.specs.Text.{Text}
 use Rattle.jsonptr.specs.TomlValue.{content, nodes, HasSortedKeys}
 use Rattle.jsonptr.specs.declared.assign.Error.{Error as AssignError}
-use Rattle.jsonptr_patch.proofs.OneLemmas.{last_one}
 use Rattle.jsonptr_patch.specs.Operating.{AppliesBy, Moves}
 use Rattle.jsonptr_patch.specs.declared.comparison.Comparison.TheVariants.{Numeric}
 use Rattle.jsonptr_patch.specs.declared.operation.Operation.{Operation}
 use Rattle.jsonptr_patch.specs.declared.operation.Operation.TheVariants.{Move}
+use Rattle.jsonptr_text_edit.proofs.OutcomeLemmas.{same_member, rename_both, rename_one}
 use Rattle.jsonptr_in_toml.specs.InToml.{ReadsAsToml, IsDeep, HasDeepValues, LacksInToml}
 use Rattle.jsonptr_in_toml.specs.declared.error.EditTomlError.{EditTomlError}
 use Rattle.jsonptr_in_toml.specs.declared.error.EditTomlError.TheVariants as kind
-use Rattle.jsonptr_edit_in_text.proofs.RenameErrorLemmas.{member_there}
-use Rattle.jsonptr_edit_in_text.specs.Renaming.{IsMember, Renames, RefusesRename}
+use Rattle.jsonptr_edit_in_text.specs.Renaming.{Renames, RefusesRename}
 use Rattle.jsonptr_edit_in_text.specs.declared.rename.RenameError.{RenameError}
-use Rattle.jsonptr_edit_in_text.specs.declared.rename.RenameError.TheVariants as rename
 use Rattle.jsonptr_edit_in_toml.proofs.FailingLemmas.{one_assign_error, one_delete_error, lacking_error, not_toml_read, not_toml_deep, deep_read, same_document}
 use Rattle.jsonptr_edit_in_toml.specs.Failing.{IsAssignInTomlError, IsDeleteInTomlError, IsTomlOutOfMemory, AreOneError}
 use Rattle.jsonptr_edit_in_toml.specs.Renaming.{RenamesTo, RenamesInOrder, IsRenameInTomlError}
@@ -50,38 +48,6 @@ abbrev OneMap : Type 0
 OneMap = (n m l : NodeMap) (o : Operation) → IsTree n → AppliesBy Numeric n o m → AppliesBy Numeric n o l → m ≡ l
 
 -- ---- a member that is renamed
-
--- the tokens identify one member
-same_member : (n : NodeMap) (ts : List Text) (a b : IsMember n ts) → (a.front ≡ b.front) × (a.x ≡ b.x) × (a.path ≡ b.path)
-same_member n ts a b =
-    let ends = last_one a.front b.front a.x b.x (sym a.split ∙ b.split) in
-    (ends.0, ends.1, Names_one_path n b.front a.path b.path (subst (λ (f : List Text). Names n f a.path) ends.0 a.named) b.named)
-
-rename_both : (n : NodeMap) (ts : List Text) (k : Text) (m : NodeMap) (f : RenameError) → Renames n ts k m → RefusesRename n ts k f → ⊥
-rename_both n ts k m rename.NotThere h r =
-    let there = member_there n ts h.member in
-    r there.0 there.1
-rename_both n ts k m rename.NotAMember h r = r.1 h.member
-rename_both n ts k m rename.KeyTaken h r =
-    let same = same_member n ts r.0 h.member in
-    let free : n (h.member.path ++ key k ∷ []) ≡ None = h.free (λ is. r.1 (is ∙ sym same.1)) in
-    let taken : IsSome (n (h.member.path ++ key k ∷ [])) = subst (λ (w : Path). IsSome (n (w ++ key k ∷ []))) same.2 r.2 in
-    true≢false (sym (subst IsSome free taken))
-
-rename_one : (n : NodeMap) (ts : List Text) (k : Text) (e f : RenameError) → RefusesRename n ts k e → RefusesRename n ts k f → e ≡ f
-rename_one n ts k rename.NotThere rename.NotThere h r = refl
-rename_one n ts k rename.NotThere rename.NotAMember h r = absurd (h r.0.0 r.0.1)
-rename_one n ts k rename.NotThere rename.KeyTaken h r =
-    let there = member_there n ts r.0 in
-    absurd (h there.0 there.1)
-rename_one n ts k rename.NotAMember rename.NotThere h r = absurd (r h.0.0 h.0.1)
-rename_one n ts k rename.NotAMember rename.NotAMember h r = refl
-rename_one n ts k rename.NotAMember rename.KeyTaken h r = absurd (h.1 r.0)
-rename_one n ts k rename.KeyTaken rename.NotThere h r =
-    let there = member_there n ts h.0 in
-    absurd (r there.0 there.1)
-rename_one n ts k rename.KeyTaken rename.NotAMember h r = absurd (r.1 h.0)
-rename_one n ts k rename.KeyTaken rename.KeyTaken h r = refl
 
 renamed_map : OneMap → (n m l : NodeMap) (ts : List Text) (k : Text) → IsTree n → Renames n ts k m → Renames n ts k l → m ≡ l
 renamed_map map n m l ts k tree h r =

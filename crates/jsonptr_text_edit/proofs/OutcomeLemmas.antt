@@ -69,12 +69,12 @@ same_read new other d e h k same = h ∙ ap (λ (x : Data). Some x) (nodes_one d
 -- ---- a member that is renamed
 
 -- the tokens identify one member
-same_member : (n : NodeMap) (ts : List Text) (a b : IsMember n ts) → (a.front ≡ b.front) × (a.x ≡ b.x) × (a.path ≡ b.path)
+pub same_member : (n : NodeMap) (ts : List Text) (a b : IsMember n ts) → (a.front ≡ b.front) × (a.x ≡ b.x) × (a.path ≡ b.path)
 same_member n ts a b =
     let ends = last_one a.front b.front a.x b.x (sym a.split ∙ b.split) in
     (ends.0, ends.1, Names_one_path n b.front a.path b.path (subst (λ (f : List Text). Names n f a.path) ends.0 a.named) b.named)
 
-rename_both : (n : NodeMap) (ts : List Text) (k : Text) (m : NodeMap) (f : RenameError) → Renames n ts k m → RefusesRename n ts k f → ⊥
+pub rename_both : (n : NodeMap) (ts : List Text) (k : Text) (m : NodeMap) (f : RenameError) → Renames n ts k m → RefusesRename n ts k f → ⊥
 rename_both n ts k m rename.NotThere h r =
     let there = member_there n ts h.member in
     r there.0 there.1
@@ -85,7 +85,7 @@ rename_both n ts k m rename.KeyTaken h r =
     let taken : IsSome (n (h.member.path ++ key k ∷ [])) = subst (λ (w : Path). IsSome (n (w ++ key k ∷ []))) same.2 r.2 in
     true≢false (sym (subst IsSome free taken))
 
-rename_one : (n : NodeMap) (ts : List Text) (k : Text) (e f : RenameError) → RefusesRename n ts k e → RefusesRename n ts k f → e ≡ f
+pub rename_one : (n : NodeMap) (ts : List Text) (k : Text) (e f : RenameError) → RefusesRename n ts k e → RefusesRename n ts k f → e ≡ f
 rename_one n ts k rename.NotThere rename.NotThere h r = refl
 rename_one n ts k rename.NotThere rename.NotAMember h r = absurd (h r.0.0 r.0.1)
 rename_one n ts k rename.NotThere rename.KeyTaken h r =
