@@ -95,7 +95,7 @@ fn own_text(
 }
 
 /// Returns the text after an assignment. The value keeps its own text, except where headers or dotted keys
-/// make it, as they make its siblings.
+/// make it, as they make its siblings: both edits are made, and the lengths of their texts tell which it is.
 fn assigned(
     alloc: Global,
     text: &str,
@@ -111,7 +111,7 @@ fn assigned(
     let kept = edit_toml(alloc, text, &TomlEdit::Assign(pointer, raw))?;
     match (laid_out, kept) {
         (Edited::InPlace(laid_out), Edited::InPlace(kept)) => {
-            // The same text, except for that of the value.
+            // Headers and dotted keys would add bytes of their own.
             let is_there = laid_out.len().saturating_add(own) == kept.len().saturating_add(printed);
             Ok(Edited::InPlace(if is_there { kept } else { laid_out }))
         }
