@@ -128,7 +128,7 @@ fn transfer_of<'a>(
     })
 }
 
-/// Gives a member another key. Fails if the object has a member with that key.
+/// Renames a member. Fails if another member of the object has the key.
 pub fn rename(rt: &HostRuntime, matches: &ArgMatches<'_>) -> Result<u8, ProgramError> {
     let alloc = rt.alloc();
     check_json(alloc, "rename", matches.get_str("FILE"))?;

@@ -31,7 +31,7 @@ status_of_line line.TooDeep = 6
 status_of_line line.NotJson = 3
 status_of_line (line.Assign e) = 6
 
--- `status_of_rename e`: the exit status if a member does not get another key, for the reason `e`
+-- `status_of_rename e`: the exit status if a member is not renamed, for the reason `e`
 abbrev pub status_of_rename : RenameError → ℕ
 status_of_rename rename.NotThere = 1
 status_of_rename rename.NotAMember = 6

@@ -55,7 +55,8 @@ pub fn is_long(operations: &Vec<Operation>) -> bool
 ///
 /// # Errors
 ///
-/// Those of [`result_in_text`](crate::result::result_in_text) for `Task::Edit` of a patch, and [`TaskError::NotPatch`] never: the patch document is one.
+/// Those of [`result_in_text`](crate::result::result_in_text) for `Task::Edit` of a patch, and never
+/// [`TaskError::NotPatch`]: the patch document is one.
 /// [`TaskError::NotInPlace`] says that no text in the layout of the old one is found.
 ///
 /// # Examples

@@ -34,7 +34,7 @@ pub enum TaskError {
     /// The pointer of the value to delete does not resolve.
     #[error("delete failed: json pointer does not resolve")]
     NotThere,
-    /// The value that the pointer resolves to cannot get the key. It is also the error if there is no value.
+    /// The pointer does not resolve to a member that can be renamed so.
     #[error(transparent)]
     NotRenamed(RenameError),
     /// An operation of the patch fails. The pointer at fault comes with the error.
@@ -98,7 +98,7 @@ impl TaskError {
     }
 }
 
-/// Returns the exit status for a member that gets no other key.
+/// Returns the exit status for a member that is not renamed.
 fn rename_status(error: &RenameError) -> u8
     ensures { result ≡ status_of_rename error.now }
 {

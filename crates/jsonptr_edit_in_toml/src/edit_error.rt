@@ -33,8 +33,7 @@ pub enum TomlEditError {
     /// The pointer of the value to delete resolves to nothing.
     #[error("delete failed: json pointer does not resolve")]
     NotThere,
-    /// The value that the pointer resolves to cannot get the key. It is also the error if there is no
-    /// value.
+    /// The pointer does not resolve to a member that can be renamed so.
     #[error(transparent)]
     Rename(RenameError),
     /// The values of the new document nest deeper than 80, so that its text could not be read.

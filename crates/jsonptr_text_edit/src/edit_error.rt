@@ -32,8 +32,7 @@ pub enum EditError {
     /// The pointer of the value to delete resolves to nothing.
     #[error("delete failed: json pointer does not resolve")]
     NotThere,
-    /// The value that the pointer resolves to cannot get the key. It is also the error if there is no
-    /// value.
+    /// The pointer does not resolve to a member that can be renamed so.
     #[error(transparent)]
     Rename(RenameError),
     /// An operation of the patch fails. The pointer at fault comes with the error.
