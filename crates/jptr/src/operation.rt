@@ -148,7 +148,7 @@ pub fn rename(rt: &HostRuntime, matches: &ArgMatches<'_>) -> Result<u8, ProgramE
     }
 }
 
-/// Returns why the member gets no other key.
+/// Returns why the member is not renamed.
 fn not_renamed(
     alloc: Global,
     source: &Source<'_>,

@@ -9,6 +9,8 @@ ghost use Rattle.jsonptr_edit_with_comments.specs.EditWithComments.{Becomes};
 ghost use Rattle.jsonptr_edit_with_comments.specs.Edits.{IsRenaming};
 ghost use Rattle.jsonptr_text_edit.specs.Edited.{text_of, IfInPlace};
 ghost use Rattle.jsonptr_text_edit.specs.declared.edit.Edit.TheVariants.{Rename};
+ghost use Rattle.jsonptr_text_edit.specs.declared.edit_error.EditError.TheVariants as error;
+ghost use Rattle.jsonptr_edit_in_text.specs.declared.rename.RenameError.TheVariants.{NotThere};
 ghost use Rattle.jsonptr_comments_edit.specs.Commented.{IsCommentedError};
 
 use jsonptr::Pointer;
@@ -16,8 +18,8 @@ use jsonptr_comments_edit::{
     Buffers, CommentedText, Edit, EditError, Edited, RenameError, edit_commented,
 };
 
-/// Renames the setting, which keeps its place, its value and all comments. Returns `None` if the file
-/// does not have the setting.
+/// Renames the setting. In place, it keeps its place, its value and all comments. Returns `None` if the file does
+/// not have the setting.
 ///
 /// # Errors
 ///
@@ -36,6 +38,7 @@ pub fn migrated(
         (new ≡ file.now.text.now) ⊎ IsRenaming file.now.text.now (tokens setting.entry) new))) }
     ensures refused { IfErr result
         (IsCommentedError file.now.text.now (Rename setting.entry name.entry)) }
+    ensures never_missing { IfErr result (λ e. e ≡ error.Rename NotThere → ⊥) }
 {
     match edit_commented(buffers, file, &Edit::Rename(setting, name)) {
         Ok(edited) => Ok(Some(edited)),
