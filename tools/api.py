@@ -30,7 +30,7 @@ Every public item of the libraries, with the first sentence of its documentation
 whole documentation has errors, costs and examples, with the contract below it. `tools/api.py --write` makes this page.
 
 A user of the port lists `jsonptr` alone: its table names what it takes from the crates below it. Who edits texts begins with
-[EDITING](EDITING.md), which has the calls that a program needs; `jsonptr_edit_in_text` and `jsonptr_edit_with_comments` are for
+[EDITING](EDITING.md), which has the calls that a program needs; `jsonptr_text_step` and `jsonptr_comments_step` are for
 crates of edits.
 """
 

@@ -10,7 +10,7 @@ import tempfile
 TOP = os.path.dirname(os.path.dirname(os.path.abspath(__file__)))
 PAGE = f"{TOP}/docs/EDITING.md"
 BLOCK = re.compile(r"^```(\w+)\n(.*?)^```$", re.MULTILINE | re.DOTALL)
-EXTRAS = ["value", "numbers", "tabled", "fragment", "session", "patch", "patch_document", "diff", "merge", "in_text", "text_value", "edit_in_text", "text_edit", "relayout", "io", "paths", "jptr_tasks", "in_toml", "edit_in_toml", "comments", "edit_with_comments", "comments_edit", "laws", "c_calls"]
+EXTRAS = ["value", "text_digits", "tabled", "fragment", "session", "patch", "patch_document", "patch_diff", "merge", "text_resolve", "text_value", "text_step", "text_edit", "text_relayout", "io", "text_paths", "jptr_tasks", "toml", "toml_edit", "comments", "comments_step", "comments_edit", "laws", "c_calls"]
 
 
 def vendor(*arguments, status=0):
@@ -76,7 +76,7 @@ def check_lines(folder):
     """Checks the line of `app`, and the line that `./vendor` prints for a crate that the user makes."""
     with open(f"{folder}/crates.txt", encoding="utf-8") as file:
         line = next(it for it in file.read().splitlines() if it.startswith("app:"))
-    check(line == "app: jsonptr jsonptr_diff serde_json anyhow", f"the line of app is {line}")
+    check(line == "app: jsonptr jsonptr_patch_diff serde_json anyhow", f"the line of app is {line}")
     with tempfile.TemporaryDirectory() as other:
         check(f"    {line}\n" in vendor(other, "diff"), "./vendor prints another line for a first crate")
 
@@ -87,7 +87,7 @@ def check_old_calls():
         vendor(folder, "--example")
         source = f"{folder}/crates/app/src/old.rt"
         with open(source, "w", encoding="utf-8") as file:
-            file.write("use jsonptr_edit_in_text::{apply_raw_in_place, assign_in_text, locate_in_text};\n")
+            file.write("use jsonptr_text_step::{apply_raw_in_place, assign_in_text, locate_in_text};\n")
         written = vendor(folder, "text_edit")
         for old, new in (("apply_raw_in_place", "edit_text"), ("locate_in_text", "locate")):
             check(f"{source}:1: {old} is gone: use {new} of jsonptr_text_edit\n" in written, f"./vendor does not name {old}")

@@ -18,7 +18,7 @@ EDITS = ["assign", "delete", "rename", "apply"]
 OTHERS = {
     "undo": [("jsonptr_session/src/undo/json.rt", UNDO), ("jsonptr_session/src/undo/toml_value.rt", UNDO)],
     "a report that is drawn": [("jsonptr_diagnostic/src/rendering.rt", ["render"])],
-    "the program of the port": [("jsonptr_command/src/run.rt", ["run_program"])],
+    "the program of the port": [("jsonptr_run_command/src/run.rt", ["run_program"])],
     "tabled pointers": [
         ("jsonptr_tabled/src/tabled.rt", [
             "new", "parse", "from_plain", "into_plain", "as_ptr", "offsets", "count", "front", "back", "parent", "split_at_offset",
@@ -40,19 +40,19 @@ OTHERS = {
         ("jsonptr_patch_document/src/write.rt", ["write_patch"]),
         ("jsonptr_patch_document/src/error.rt", ["pointer_text"]),
     ],
-    "differences": [("jsonptr_diff/src/difference.rt", ["diff", "change"])],
+    "differences": [("jsonptr_patch_diff/src/difference.rt", ["diff", "change"])],
     "merges": [
         ("jsonptr_merge/src/patch.rt", ["merge_patch", "merge_patched"]),
         ("jsonptr_merge/src/make.rt", ["make_merge_patch"]),
         ("jsonptr_merge/src/three_way.rt", ["merge"]),
     ],
     "resolving in text": [
-        ("jsonptr_in_text/src/resolve.rt", ["resolve_in_text", "resolve_in_slice", "exists_in_text"]),
-        ("jsonptr_in_text/src/format.rt", ["format_text"]),
+        ("jsonptr_text_resolve/src/resolve.rt", ["resolve_in_text", "resolve_in_slice", "exists_in_text"]),
+        ("jsonptr_text_resolve/src/format.rt", ["format_text"]),
     ],
     "edits in text": [
-        *((f"jsonptr_edit_in_text/src/{it}.rt", [f"{it}_in_text"]) for it in EDITS),
-        ("jsonptr_edit_in_text/src/find.rt", ["locate"]),
+        *((f"jsonptr_text_step/src/{it}.rt", [f"{it}_in_text"]) for it in EDITS),
+        ("jsonptr_text_step/src/find.rt", ["locate"]),
     ],
     "one edit of a text": [("jsonptr_text_edit/src/text.rt", ["edit_text"])],
     "one edit of a text with comments": [
@@ -60,25 +60,25 @@ OTHERS = {
         ("jsonptr_comments_edit/src/editor.rt", ["edit_in_place"]),
     ],
     "documents as lines": [
-        ("jsonptr_paths/src/listing.rt", ["list"]),
-        ("jsonptr_paths/src/text_listing.rt", ["list_in_text"]),
-        ("jsonptr_paths/src/toml_listing.rt", ["list_toml"]),
-        ("jsonptr_paths/src/build.rt", ["build"]),
+        ("jsonptr_text_paths/src/listing.rt", ["list"]),
+        ("jsonptr_text_paths/src/text_listing.rt", ["list_in_text"]),
+        ("jsonptr_text_paths/src/toml_listing.rt", ["list_toml"]),
+        ("jsonptr_text_paths/src/build.rt", ["build"]),
     ],
     "JSON with comments": [
         ("jsonptr_comments/src/comments.rt", ["without_comments"]),
-        *((f"jsonptr_edit_with_comments/src/{it}.rt", [f"{it}_with_comments"]) for it in EDITS),
+        *((f"jsonptr_comments_step/src/{it}.rt", [f"{it}_with_comments"]) for it in EDITS),
     ],
     "numbers that lose digits": [
-        ("jsonptr_numbers/src/find.rt", ["find_lost"]),
-        ("jsonptr_numbers/src/kept.rt", ["is_kept"]),
-        ("jsonptr_numbers/src/exact.rt", ["read_exactly"]),
+        ("jsonptr_text_digits/src/find.rt", ["find_lost"]),
+        ("jsonptr_text_digits/src/kept.rt", ["is_kept"]),
+        ("jsonptr_text_digits/src/exact.rt", ["read_exactly"]),
     ],
-    "layouts": [("jsonptr_relayout/src/layout.rt", ["relayout", "relayout_with_texts", "relayout_text"])],
-    "TOML text": [("jsonptr_in_toml/src/change.rt", ["resolve_in_toml", "assign_and_print_toml", "delete_and_print_toml"])],
+    "layouts": [("jsonptr_text_relayout/src/layout.rt", ["relayout", "relayout_with_texts", "relayout_text"])],
+    "TOML text": [("jsonptr_toml/src/change.rt", ["resolve_in_toml", "assign_and_print_toml", "delete_and_print_toml"])],
     "edits in TOML text": [
-        ("jsonptr_edit_in_toml/src/text.rt", ["edit_toml"]),
-        ("jsonptr_edit_in_toml/src/raw_value.rt", ["parse"]),
+        ("jsonptr_toml_edit/src/text.rt", ["edit_toml"]),
+        ("jsonptr_toml_edit/src/raw_value.rt", ["parse"]),
     ],
     "commands on texts and lines": [
         ("jptr_tasks/src/result.rt", ["result_in_text"]),
@@ -122,7 +122,7 @@ def files_of_list():
     with open(f"{TOP}/docs/ARCHITECTURE.md", encoding="utf-8") as file:
         section = file.read().split("## What has to be believed\n")[1].split("\n## ")[0]
     first, second = section.split("Last come the clauses of `run_program`")
-    rows = [row.split(" | ")[0] for row in first.splitlines() if row.startswith("| `") and "jsonptr_command" not in row]
+    rows = [row.split(" | ")[0] for row in first.splitlines() if row.startswith("| `") and "jsonptr_run_command" not in row]
     rows += [row for row in second.splitlines() if row.startswith("| the headline |")]
     files = []
     for row in rows:

@@ -10,7 +10,7 @@ use jptr_tasks::reprint::DigitLoss;
 use jptr_tasks::result::result_in_text;
 use jptr_tasks::task::Task;
 use jptr_tasks::task_error::TaskError;
-use jsonptr_numbers::{Lost, find_lost};
+use jsonptr_text_digits::{Lost, find_lost};
 use jsonptr_text_edit::{Edit, RawOperation};
 use simdutf8::basic::from_utf8;
 use std::alloc::{AllocError, Global};

@@ -9,11 +9,11 @@ use jptr_tasks::task::Task;
 use jptr_tasks::task_error::TaskError;
 use jsonptr::diagnostic::Diagnostic;
 use jsonptr::{Fault, Pointer, assign, resolve};
-use jsonptr_in_text::{InTextError, resolve_in_text};
 use jsonptr_patch::{
     Comparison, FailedOperation, Operation, PatchError, PatchPointer, apply_comparing,
 };
 use jsonptr_text_edit::Edit;
+use jsonptr_text_resolve::{InTextError, resolve_in_text};
 use jsonptr_value::if_json;
 use serde_json::Value;
 use simdutf8::basic::from_utf8;

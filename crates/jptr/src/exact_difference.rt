@@ -11,9 +11,9 @@ use jptr_tasks::patch::operations_of;
 use jptr_tasks::paths::listed_text;
 use json::{Reader, Scratch, Token, Writer};
 use jsonptr::Fault;
-use jsonptr_numbers::{find_lost, is_kept};
 use jsonptr_patch::{Comparison, apply_comparing};
-use jsonptr_paths::listing::Listed;
+use jsonptr_text_digits::{find_lost, is_kept};
+use jsonptr_text_paths::listing::Listed;
 use jsonptr_value::{ReadError, if_json};
 use std::alloc::{AllocError, Global};
 

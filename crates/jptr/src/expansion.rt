@@ -9,8 +9,8 @@ use jptr_tasks::node::scalar_above;
 use jptr_tasks::task::Task;
 use jptr_tasks::task_error::TaskError;
 use jsonptr::Pointer;
-use jsonptr_in_toml::{InTomlError, resolve_in_toml};
 use jsonptr_text_edit::Edit;
+use jsonptr_toml::{InTomlError, resolve_in_toml};
 use std::alloc::Global;
 use toml::Value;
 

@@ -10,7 +10,7 @@ use jptr_tasks::layout::Layout;
 use jptr_tasks::long_patch::patch_in_layout;
 use jptr_tasks::task::Task;
 use jptr_tasks::task_error::TaskError;
-use jsonptr_numbers::find_lost;
+use jsonptr_text_digits::find_lost;
 use jsonptr_text_edit::Edit;
 use jsonptr_text_value::{FailedPatch, PatchText};
 use serde_json::Value;

@@ -12,7 +12,7 @@ use jptr_tasks::layout::{Layout, show};
 use jptr_tasks::node::{equals_in_text, keys_in_text, length_in_text, type_in_text};
 use jptr_tasks::task_error::TaskError;
 use jsonptr::Pointer;
-use jsonptr_in_text::exists_in_text;
+use jsonptr_text_resolve::exists_in_text;
 use jsonptr_value::{NodeType, ReadError};
 use serde_json::{Map, Value};
 use std::alloc::{AllocError, Global};

@@ -13,9 +13,9 @@ use jptr_tasks::node::{length_in_text, type_in_text};
 use jptr_tasks::task::Task;
 use jptr_tasks::task_error::TaskError;
 use jsonptr::{Pointer, Token};
-use jsonptr_in_text::exists_in_text;
 use jsonptr_patch::{FailedOperation, Operation, PatchError, PatchPointer, is_proper_prefix};
 use jsonptr_text_edit::{Edit, PatchText, RawValue, RenameError};
+use jsonptr_text_resolve::exists_in_text;
 use jsonptr_value::{NodeType, if_json};
 use std::alloc::{AllocError, Global};
 

@@ -12,8 +12,8 @@ use jptr_tasks::exit_status::NOT_MADE;
 use jptr_tasks::paths::{built_text, listed_text};
 use jptr_tasks::task_error::TaskError;
 use jsonptr::assign;
-use jsonptr_paths::build::LineError;
-use jsonptr_paths::listing::Listed;
+use jsonptr_text_paths::build::LineError;
+use jsonptr_text_paths::listing::Listed;
 use simdutf8::basic::from_utf8;
 use std::alloc::{AllocError, Global};
 

@@ -7,7 +7,7 @@ use crate::program_error::ProgramError;
 use crate::source::Source;
 use clap::ArgMatches;
 use jptr_tasks::exit_status::{NOT_MADE, USAGE};
-use jsonptr_relayout::{Buffers, Relaid, RelayoutTextError, relayout_text};
+use jsonptr_text_relayout::{Buffers, Relaid, RelayoutTextError, relayout_text};
 use std::alloc::Global;
 
 /// Why a document is not printed.

@@ -13,11 +13,9 @@ use clap::ArgMatches;
 use jptr_tasks::exit_status::{BAD_INPUT, NOT_MADE, USAGE};
 use jptr_tasks::task_error::TaskError;
 use jsonptr::Pointer;
-use jsonptr_edit_in_toml::{
-    Edited, RawTomlError, RawTomlValue, TomlEdit, TomlEditError, edit_toml,
-};
-use jsonptr_in_toml::{InTomlError, PrintTomlError, ReadTomlError, list_in_toml, resolve_in_toml};
-use jsonptr_paths::listing::Listed;
+use jsonptr_text_paths::listing::Listed;
+use jsonptr_toml::{InTomlError, PrintTomlError, ReadTomlError, list_in_toml, resolve_in_toml};
+use jsonptr_toml_edit::{Edited, RawTomlError, RawTomlValue, TomlEdit, TomlEditError, edit_toml};
 use simdutf8::basic::from_utf8;
 use std::alloc::{AllocError, Global};
 use toml::table_from_str;

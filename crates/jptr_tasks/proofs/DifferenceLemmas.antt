@@ -17,18 +17,18 @@ use Rattle.jsonptr_patch.specs.declared.comparison.Comparison.TheVariants.{Numer
 use Rattle.jsonptr_patch.specs.declared.failed_operation.FailedOperation.{FailedOperation}
 use Rattle.jsonptr_patch.specs.declared.operation.Operation.{Operation}
 use Rattle.jsonptr_patch_document.specs.Document.{IsPatch, IsNoPatch}
-use Rattle.jsonptr_diff.specs.Diff.{HasValueWithin}
+use Rattle.jsonptr_patch_diff.specs.Diff.{HasValueWithin}
 use Rattle.jsonptr_patch.specs.declared.operation.Operation.TheVariants.{Add, Remove, Replace, Move, Copy, Test}
 use Rattle.jsonptr_patch_document.specs.Writing.{document_of, written_object}
 use Rattle.jsonptr_patch_document.specs.declared.error.PatchDocumentError.{PatchDocumentError}
-use Rattle.jsonptr_edit_in_text.specs.PatchInText.{IsPatchError}
-use Rattle.jsonptr_edit_in_text.specs.declared.edited.EditError.TheVariants as edit
+use Rattle.jsonptr_text_step.specs.PatchInText.{IsPatchError}
+use Rattle.jsonptr_text_step.specs.declared.edited.EditError.TheVariants as edit
 use Rattle.jptr_tasks.specs.Differences.{IsDifference, FailsToDiffer}
 use Rattle.jptr_tasks.specs.Inverting.{IsInverse}
 use Rattle.jptr_tasks.specs.PrivateResults.{IsPatchTextFault}
-use Rattle.jsonptr_in_text.specs.Format.{IsFormatted}
-use Rattle.jsonptr_in_text.specs.declared.format.Format.{Format}
-use Rattle.jsonptr_in_text.specs.declared.format.Format.TheVariants as format
+use Rattle.jsonptr_text_resolve.specs.Format.{IsFormatted}
+use Rattle.jsonptr_text_resolve.specs.declared.format.Format.{Format}
+use Rattle.jsonptr_text_resolve.specs.declared.format.Format.TheVariants as format
 use Rattle.jsonptr_value.specs.JsonText.{IsCompact}
 use Rattle.jptr_tasks.specs.Layouts.{ShowsInLayout, Lays, ReadsBack}
 use Rattle.jptr_tasks.specs.Results.{FailsToPatch}

@@ -11,12 +11,12 @@ use Rattle.jsonptr_patch.specs.declared.comparison.Comparison.TheVariants.{Numer
 use Rattle.jsonptr_patch.specs.declared.operation.Operation.{Operation}
 use Rattle.jsonptr_patch_document.specs.Document.{IsPatch}
 use Rattle.jsonptr_value.proofs.LevelLemmas.{depth-within}
-use Rattle.jsonptr_edit_in_text.specs.OneLine.{StaysOneLine}
-use Rattle.jsonptr_edit_in_text.specs.PatchInText.{PatchesInText}
-use Rattle.jsonptr_relayout.specs.Relaying.{text_of_relaid, ReadsAs, IsRelayoutError}
-use Rattle.jsonptr_relayout.specs.declared.relaid.Relaid.{Relaid}
-use Rattle.jsonptr_relayout.specs.declared.relaid.RelayoutError.{RelayoutError}
-use Rattle.jsonptr_relayout.specs.declared.relaid.RelayoutError.TheVariants as relayout
+use Rattle.jsonptr_text_step.specs.OneLine.{StaysOneLine}
+use Rattle.jsonptr_text_step.specs.PatchInText.{PatchesInText}
+use Rattle.jsonptr_text_relayout.specs.Relaying.{text_of_relaid, ReadsAs, IsRelayoutError}
+use Rattle.jsonptr_text_relayout.specs.declared.relaid.Relaid.{Relaid}
+use Rattle.jsonptr_text_relayout.specs.declared.relaid.RelayoutError.{RelayoutError}
+use Rattle.jsonptr_text_relayout.specs.declared.relaid.RelayoutError.TheVariants as relayout
 use Rattle.jptr_tasks.specs.Failures.{of_relayout_error}
 use Rattle.jptr_tasks.specs.Results.{PatchesInLayout}
 use Rattle.jptr_tasks.specs.PrivateResults.{Remakes, FailsToApply, AppliesInLayout, IsAppliedTo, IsRelayoutFault, IsLayoutError}

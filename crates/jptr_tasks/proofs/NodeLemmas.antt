@@ -9,7 +9,7 @@ use Rattle.json.specs.declared.token.Token.{Token}
 use Rattle.json.specs.declared.token.Token.TheVariants.{BeginObject, EndObject, BeginArray, EndArray, Key, String as text, Number, Bool as truth, Null, Bad}
 use Rattle.serde_json.specs.Data.{Data}
 use Rattle.jsonptr.specs.Text.{Text}
-use Rattle.jsonptr_json_search.specs.Reading.{ReadsTokens}
+use Rattle.jsonptr_text_search.specs.Reading.{ReadsTokens}
 use Rattle.jptr_tasks.specs.Nodes.{AreMembers}
 
 -- one member more

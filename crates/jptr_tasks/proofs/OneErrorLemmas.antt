@@ -13,7 +13,7 @@ use Rattle.jsonptr_tree.proofs.JsonLemmas.{FindsValue-Finds}
 use Rattle.jsonptr.specs.Pointer.{tokens}
 use Rattle.jsonptr.specs.Resolve.{Refuses}
 use Rattle.jsonptr.specs.declared.resolve.Error as resolve
-use Rattle.jsonptr_in_text.specs.InText.{FindsInText, RefusesInText}
+use Rattle.jsonptr_text_resolve.specs.InText.{FindsInText, RefusesInText}
 use Rattle.jsonptr_text_edit.specs.Edits.{EditsText}
 use Rattle.jsonptr_text_edit.specs.Errors.{IsEditError}
 use Rattle.jsonptr_text_edit.specs.Outcomes.{EditHasSortedKeys, IsMemory}

@@ -1,8 +1,8 @@
 -- Numbers that lose digits in the values of an edit.
 use Rattle.std.proofs.Common.{◌≡◌, Option, Some, None, IfSome, MatchOption, string_bytes, sym, subst}
-use Rattle.jsonptr_numbers.specs.Digits.{KeepsDigits}
-use Rattle.jsonptr_numbers.specs.Lost.{Loses}
-use Rattle.jsonptr_numbers.specs.declared.lost.Lost.{Lost}
+use Rattle.jsonptr_text_digits.specs.Digits.{KeepsDigits}
+use Rattle.jsonptr_text_digits.specs.Lost.{Loses}
+use Rattle.jsonptr_text_digits.specs.declared.lost.Lost.{Lost}
 use Rattle.jsonptr_text_value.specs.declared.raw_operation.RawOperation.{RawOperation}
 use Rattle.jsonptr_text_value.specs.declared.raw_value.RawValue.{RawValue}
 use Rattle.jptr_tasks.specs.Reprinting.{KeepsGiven, LosesIn}

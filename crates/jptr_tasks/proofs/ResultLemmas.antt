@@ -7,10 +7,10 @@ use Rattle.std.proofs.KnownBytes.{Appends-nil}
 use Rattle.serde_json.specs.Data.{Data}
 use Rattle.serde_json.specs.Read.{read}
 use Rattle.jsonptr.specs.Text.{Text}
-use Rattle.jsonptr_edit_in_text.specs.OneLine.{StaysOneLine}
-use Rattle.jsonptr_edit_in_text.specs.Locating.{IsLocated}
-use Rattle.jsonptr_in_text.specs.Format.{IsFormatted}
-use Rattle.jsonptr_in_text.specs.declared.format.Format.TheVariants as format
+use Rattle.jsonptr_text_step.specs.OneLine.{StaysOneLine}
+use Rattle.jsonptr_text_step.specs.Locating.{IsLocated}
+use Rattle.jsonptr_text_resolve.specs.Format.{IsFormatted}
+use Rattle.jsonptr_text_resolve.specs.declared.format.Format.TheVariants as format
 use Rattle.json.specs.Print.{print}
 use Rattle.serde_json.specs.View.{view}
 use Rattle.serde_json.specs.declared.value.Value.{Value}
@@ -27,11 +27,11 @@ use Rattle.jsonptr_text_edit.specs.declared.edit_error.EditError.TheVariants as 
 use Rattle.jsonptr_io.specs.Lines.{IsOneLine}
 use Rattle.jsonptr_json_edits.specs.Spacing.{IsBlank}
 use Rattle.jsonptr_io.specs.Streams.{AppendsPrefix}
-use Rattle.jsonptr_paths.proofs.PlainLemmas.{plain_printed}
+use Rattle.jsonptr_text_paths.proofs.PlainLemmas.{plain_printed}
 use Rattle.jsonptr_patch.specs.declared.operation.Operation.{Operation}
 use Rattle.jsonptr_patch_document.specs.Document.{IsPatch}
 use Rattle.jsonptr_text_value.specs.Operations.{operations_in}
-use Rattle.jsonptr_edit_in_text.proofs.RawLemmas.{patch_bytes}
+use Rattle.jsonptr_text_step.proofs.RawLemmas.{patch_bytes}
 use Rattle.jsonptr_value.specs.JsonText.{IsCompact}
 use Rattle.jptr_tasks.specs.Layouts.{Lays, CanBreak}
 use Rattle.jptr_tasks.specs.Failures.{of_edit_error}

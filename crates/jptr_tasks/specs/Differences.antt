@@ -5,7 +5,7 @@ use Rattle.serde_json.specs.Read.{read, max_depth}
 use Rattle.jsonptr.specs.Node.{NodeMap}
 use Rattle.jsonptr_patch.specs.Patching.{Patches}
 use Rattle.jsonptr_patch.specs.declared.operation.Operation.{Operation}
-use Rattle.jsonptr_diff.specs.Diff.{IsChange, StepsTo}
+use Rattle.jsonptr_patch_diff.specs.Diff.{IsChange, StepsTo}
 use Rattle.jsonptr_patch_document.specs.Writing.{document_of}
 use Rattle.jptr_tasks.specs.Layouts.{ShowsInLayout}
 use Rattle.jptr_tasks.specs.declared.difference.PrintedPatch.{PrintedPatch}

@@ -4,22 +4,22 @@ use Rattle.jsonptr_io.specs.declared.input.InputError.{InputError}
 use Rattle.jsonptr_io.specs.declared.input.InputError.TheVariants as input
 use Rattle.jsonptr_value.specs.declared.from_text.ReadError.{ReadError}
 use Rattle.jsonptr_value.specs.declared.from_text.ReadError.TheVariants as unread
-use Rattle.jsonptr_in_text.specs.declared.resolve.InTextError.{InTextError}
-use Rattle.jsonptr_in_text.specs.declared.resolve.InTextError.TheVariants as in_text
-use Rattle.jsonptr_edit_in_text.specs.declared.find.LocateError.{LocateError}
-use Rattle.jsonptr_edit_in_text.specs.declared.find.LocateError.TheVariants as locate
-use Rattle.jsonptr_edit_in_text.specs.declared.rename.RenameError.{RenameError}
-use Rattle.jsonptr_edit_in_text.specs.declared.rename.RenameError.TheVariants as rename
+use Rattle.jsonptr_text_resolve.specs.declared.resolve.InTextError.{InTextError}
+use Rattle.jsonptr_text_resolve.specs.declared.resolve.InTextError.TheVariants as in_text
+use Rattle.jsonptr_text_step.specs.declared.find.LocateError.{LocateError}
+use Rattle.jsonptr_text_step.specs.declared.find.LocateError.TheVariants as locate
+use Rattle.jsonptr_text_step.specs.declared.rename.RenameError.{RenameError}
+use Rattle.jsonptr_text_step.specs.declared.rename.RenameError.TheVariants as rename
 use Rattle.jsonptr_text_edit.specs.declared.edit_error.EditError.{EditError}
 use Rattle.jsonptr_text_edit.specs.declared.edit_error.EditError.TheVariants as edit
 use Rattle.jsonptr_text_value.specs.declared.patch_text_error.PatchTextError.{PatchTextError}
 use Rattle.jsonptr_text_value.specs.declared.patch_text_error.PatchTextError.TheVariants as patch_text
-use Rattle.jsonptr_paths.specs.declared.build.LineError.{LineError}
-use Rattle.jsonptr_paths.specs.declared.build.LineError.TheVariants as line
-use Rattle.jsonptr_paths.specs.declared.build.BuildError.{BuildError}
-use Rattle.jsonptr_paths.specs.declared.build.BuildError.TheVariants as build
-use Rattle.jsonptr_relayout.specs.declared.relaid.RelayoutError.{RelayoutError}
-use Rattle.jsonptr_relayout.specs.declared.relaid.RelayoutError.TheVariants as relayout
+use Rattle.jsonptr_text_paths.specs.declared.build.LineError.{LineError}
+use Rattle.jsonptr_text_paths.specs.declared.build.LineError.TheVariants as line
+use Rattle.jsonptr_text_paths.specs.declared.build.BuildError.{BuildError}
+use Rattle.jsonptr_text_paths.specs.declared.build.BuildError.TheVariants as build
+use Rattle.jsonptr_text_relayout.specs.declared.relaid.RelayoutError.{RelayoutError}
+use Rattle.jsonptr_text_relayout.specs.declared.relaid.RelayoutError.TheVariants as relayout
 use Rattle.jptr_tasks.specs.declared.task_error.TaskError.{TaskError}
 use Rattle.jptr_tasks.specs.declared.task_error.TaskError.TheVariants.{NotPatch, Resolve, Assign, NotThere, NotRenamed, PatchFailed, TooDeep, NotInPlace, NotLocated, PatchTooDeep, LineBreak, BadLine, NotUtf8, NotJson, Memory, Read, Write}
 

@@ -5,8 +5,8 @@ use Rattle.serde_json.specs.Find.{as_str}
 use Rattle.serde_json.specs.Read.{read}
 use Rattle.jsonptr.specs.Text.{Text}
 use Rattle.jsonptr_value.specs.JsonText.{IsCompact, IsPretty}
-use Rattle.jsonptr_in_text.specs.Format.{IsFormatted}
-use Rattle.jsonptr_in_text.specs.declared.format.Format.TheVariants as format
+use Rattle.jsonptr_text_resolve.specs.Format.{IsFormatted}
+use Rattle.jsonptr_text_resolve.specs.declared.format.Format.TheVariants as format
 use Rattle.jptr_tasks.specs.declared.layout.Layout.{Layout}
 use Rattle.jptr_tasks.specs.declared.layout.Layout.TheVariants.{Kept, Compact, Pretty, Sorted, SortedPretty, Raw}
 

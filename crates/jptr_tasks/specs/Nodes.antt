@@ -8,11 +8,11 @@ use Rattle.serde_json.specs.Data.{Data}
 use Rattle.serde_json.specs.Read.{max_depth, read}
 use Rattle.jsonptr.specs.Text.{Text}
 use Rattle.jsonptr.specs.Json.{nodes}
-use Rattle.jsonptr_json_search.specs.Reading.{ReadsTokens}
-use Rattle.jsonptr_in_text.specs.InText.{FindsInText, RefusesInText}
+use Rattle.jsonptr_text_search.specs.Reading.{ReadsTokens}
+use Rattle.jsonptr_text_resolve.specs.InText.{FindsInText, RefusesInText}
 use Rattle.jsonptr_patch.specs.Testing.{IsEqualBy}
 use Rattle.jsonptr_patch.specs.declared.comparison.Comparison.TheVariants.{Numeric}
-use Rattle.jsonptr_edit_in_text.specs.Locating.{IsLocated}
+use Rattle.jsonptr_text_step.specs.Locating.{IsLocated}
 use Rattle.jptr_tasks.specs.declared.task_error.TaskError.{TaskError}
 use Rattle.jptr_tasks.specs.declared.task_error.TaskError.TheVariants.{NotJson, Resolve, NotLocated, Memory}
 use Rattle.jsonptr_value.specs.NodeTypes.{type_of, length_of}

@@ -7,10 +7,10 @@ use Rattle.serde_json.specs.Read.{read}
 use Rattle.jsonptr.specs.Text.{Text}
 use Rattle.jsonptr.specs.Json.{nodes, HasSortedKeys}
 use Rattle.jsonptr_io.specs.Streams.{ForInput, AppendsPrefix}
-use Rattle.jsonptr_paths.specs.Listing.{Lists}
-use Rattle.jsonptr_paths.specs.Building.{Builds, StopsBuilding}
-use Rattle.jsonptr_paths.specs.declared.listing.Listed.{Listed}
-use Rattle.jsonptr_paths.specs.declared.build.BuildError.TheVariants.{Line}
+use Rattle.jsonptr_text_paths.specs.Listing.{Lists}
+use Rattle.jsonptr_text_paths.specs.Building.{Builds, StopsBuilding}
+use Rattle.jsonptr_text_paths.specs.declared.listing.Listed.{Listed}
+use Rattle.jsonptr_text_paths.specs.declared.build.BuildError.TheVariants.{Line}
 use Rattle.jptr_tasks.specs.Layouts.{ShowsInLayout, ReadsBack}
 use Rattle.jptr_tasks.specs.declared.task_error.TaskError.{TaskError}
 use Rattle.jptr_tasks.specs.declared.task_error.TaskError.TheVariants.{NotJson, NotUtf8, BadLine, Memory, Read, Write}

@@ -1,9 +1,9 @@
 -- Edits of a text whose document may be printed anew, if no number loses digits.
 use Rattle.std.specs.Prelude.{◌≡◌, ◌+◌, ℕ, List, ◌∷◌, Some, IfSome, All, take, drop, string_bytes, ⊤}
 use Rattle.jsonptr.specs.Text.{Text}
-use Rattle.jsonptr_numbers.specs.Digits.{KeepsDigits}
-use Rattle.jsonptr_numbers.specs.Lost.{Loses}
-use Rattle.jsonptr_numbers.specs.declared.lost.Lost.{Lost}
+use Rattle.jsonptr_text_digits.specs.Digits.{KeepsDigits}
+use Rattle.jsonptr_text_digits.specs.Lost.{Loses}
+use Rattle.jsonptr_text_digits.specs.declared.lost.Lost.{Lost}
 use Rattle.jsonptr_text_edit.specs.Edits.{EditsText}
 use Rattle.jsonptr_text_edit.specs.Errors.{IsEditError}
 use Rattle.jsonptr_text_edit.specs.declared.edit.Edit.{Edit}

@@ -12,11 +12,11 @@ use Rattle.jsonptr_patch.specs.Patching.{FailsBy}
 use Rattle.jsonptr_patch.specs.declared.comparison.Comparison.TheVariants.{Numeric}
 use Rattle.jsonptr_patch.specs.declared.operation.Operation.{Operation}
 use Rattle.jsonptr_patch_document.specs.Document.{IsPatch, IsNoPatch}
-use Rattle.jsonptr_in_text.specs.InText.{FindsInText, RefusesInText}
-use Rattle.jsonptr_edit_in_text.specs.OneLine.{StaysOneLine}
-use Rattle.jsonptr_edit_in_text.specs.Locating.{IsLocated}
-use Rattle.jsonptr_edit_in_text.specs.PatchInText.{PatchesInText, PatchBytes, IsPatchError}
-use Rattle.jsonptr_edit_in_text.specs.declared.edited.EditError.TheVariants as edit
+use Rattle.jsonptr_text_resolve.specs.InText.{FindsInText, RefusesInText}
+use Rattle.jsonptr_text_step.specs.OneLine.{StaysOneLine}
+use Rattle.jsonptr_text_step.specs.Locating.{IsLocated}
+use Rattle.jsonptr_text_step.specs.PatchInText.{PatchesInText, PatchBytes, IsPatchError}
+use Rattle.jsonptr_text_step.specs.declared.edited.EditError.TheVariants as edit
 use Rattle.jsonptr_text_edit.specs.Edits.{EditsText, EditBytes}
 use Rattle.jsonptr_text_edit.specs.Errors.{IsEditError}
 use Rattle.jsonptr_text_edit.specs.declared.edit.Edit.{Edit}

@@ -10,8 +10,8 @@ ghost use Rattle.jptr_tasks.specs.Differences.{HasChanges, IsDifference, IsNoneI
 
 use crate::layout::{Layout, show};
 use crate::task_error::TaskError;
-use jsonptr_diff::diff;
 use jsonptr_patch::Operation;
+use jsonptr_patch_diff::diff;
 use jsonptr_patch_document::write_patch;
 use jsonptr_value::{MAX_DEPTH, nests_within};
 use serde_json::Value;

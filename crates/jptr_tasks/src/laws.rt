@@ -15,8 +15,8 @@ ghost use Rattle.jsonptr_patch.specs.declared.comparison.Comparison.TheVariants.
 ghost use Rattle.jsonptr_patch.specs.declared.operation.Operation.{Operation};
 ghost use Rattle.jsonptr_patch_document.specs.Document.{IsPatch, IsNoPatch};
 ghost use Rattle.jsonptr_patch_document.specs.declared.error.PatchDocumentError.{PatchDocumentError};
-ghost use Rattle.jsonptr_paths.specs.declared.listing.Listed.TheVariants.{AllNodes};
-ghost use Rattle.jsonptr_paths.specs.declared.build.LineError.{LineError};
+ghost use Rattle.jsonptr_text_paths.specs.declared.listing.Listed.TheVariants.{AllNodes};
+ghost use Rattle.jsonptr_text_paths.specs.declared.build.LineError.{LineError};
 ghost use Rattle.jptr_tasks.specs.Cutting.{EndsInLineFeed, InputGives, IsShifted};
 ghost use Rattle.jptr_tasks.specs.Documents.{TaskFailsOn};
 ghost use Rattle.jptr_tasks.specs.LineResults.{IsLineFault, LinesGive, StopsRun};
@@ -43,7 +43,7 @@ pub mod one_error;
 use jsonptr_patch::laws::comparison::test_comparison_law;
 use jsonptr_patch::laws::patch::comparing_patch_law;
 use jsonptr_patch_document::laws::{patch_document_law, writing_law};
-use jsonptr_paths::laws::round_trip_law;
+use jsonptr_text_paths::laws::round_trip_law;
 
 /// States that what is built from the lines of all nodes of a text is the document of that text.
 ///
@@ -97,7 +97,7 @@ pub fn printed_difference_law()
 {
     patch_document_law();
     writing_law();
-    jsonptr_diff::laws::difference_law();
+    jsonptr_patch_diff::laws::difference_law();
     test_comparison_law();
     comparing_patch_law();
 }

@@ -1,13 +1,13 @@
 //! How a value is printed.
 ghost use Rattle.std.specs.Prelude.{◌≡◌, Some, IfOk, IfErr, string_bytes};
 ghost use Rattle.serde_json.specs.Read.{read};
-ghost use Rattle.jsonptr_in_text.specs.Format.{IsFormatted};
+ghost use Rattle.jsonptr_text_resolve.specs.Format.{IsFormatted};
 ghost use Rattle.serde_json.specs.View.{view};
 ghost use Rattle.jptr_tasks.specs.Layouts.{ShowsInLayout, Lays};
 ghost use Rattle.jptr_tasks.specs.PrivateResults.{IsLayoutError};
 
 use crate::task_error::TaskError;
-use jsonptr_in_text::{Format, Scratch, format_text};
+use jsonptr_text_resolve::{Format, Scratch, format_text};
 use serde_json::Value;
 use std::alloc::{AllocError, Global};
 

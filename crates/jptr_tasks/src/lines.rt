@@ -8,8 +8,8 @@ ghost use Rattle.jptr_tasks.specs.declared.task_error.TaskError.TheVariants.{Wri
 
 use crate::line::{Line, LineTask, put_line};
 use crate::task_error::TaskError;
-use jsonptr_edit_in_text::Buffers;
 use jsonptr_io::read::{Ending, next_line};
+use jsonptr_text_step::Buffers;
 use std::alloc::Global;
 use std::io;
 

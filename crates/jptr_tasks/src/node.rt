@@ -3,17 +3,17 @@
 ghost use Rattle.std.specs.Prelude.{◌≡◌, map, length, MatchOption, IfOk, IfErr, chars, string_bytes};
 ghost use Rattle.serde_json.specs.View.{view};
 ghost use Rattle.jsonptr.specs.Pointer.{tokens};
-ghost use Rattle.jsonptr_in_text.specs.InText.{FindsInText};
+ghost use Rattle.jsonptr_text_resolve.specs.InText.{FindsInText};
 ghost use Rattle.jptr_tasks.specs.Nodes.{HasType, ValueHasLength, HasKeysAt, ListsKeys, IsNoObject, Tests, FailsToFind, FailsToListKeys, scalar_type, HasAbove, FailsAbove};
 ghost use Rattle.jptr_tasks.specs.PrivateNodes.{ListsRest};
 
 use crate::task_error::TaskError;
 use json::{Reader, Scratch, Token};
 use jsonptr::Pointer;
-use jsonptr_edit_in_text::{Buffers, locate};
-use jsonptr_in_text::resolve_in_text;
-use jsonptr_json_search::skip::skip;
 use jsonptr_patch::{Comparison, is_equal};
+use jsonptr_text_resolve::resolve_in_text;
+use jsonptr_text_search::skip::skip;
+use jsonptr_text_step::{Buffers, locate};
 use jsonptr_value::{MAX_DEPTH, NodeType, ReadError, if_json, length, node_type};
 use serde_json::Value;
 use std::alloc::Global;

@@ -6,15 +6,15 @@ use crate::document::put_all;
 use crate::layout::{Layout, show};
 use crate::task_error::TaskError;
 use jsonptr_io::input::read_into;
-use jsonptr_paths::build::build;
-use jsonptr_paths::listing::Listed;
-use jsonptr_paths::text_listing::list_in_text;
+use jsonptr_text_paths::build::build;
+use jsonptr_text_paths::listing::Listed;
+use jsonptr_text_paths::text_listing::list_in_text;
 use simdutf8::basic::from_utf8;
 use std::alloc::Global;
 use std::io;
 
 /// Returns the lines for the nodes of the document that the bytes are, as `list_in_text` of
-/// `jsonptr_paths` does.
+/// `jsonptr_text_paths` does.
 ///
 /// # Errors
 ///

@@ -1,13 +1,13 @@
 //! An edit of a text that is made in place, or else in a document that is printed anew, if no digit is lost.
 ghost use Rattle.std.specs.Prelude.{◌≡◌, false, All, IfOk, IfErr, MatchOption};
-ghost use Rattle.jsonptr_numbers.specs.Digits.{KeepsDigits};
-ghost use Rattle.jsonptr_edit_in_text.specs.OneLine.{StaysOneLine};
+ghost use Rattle.jsonptr_text_digits.specs.Digits.{KeepsDigits};
+ghost use Rattle.jsonptr_text_step.specs.OneLine.{StaysOneLine};
 ghost use Rattle.jsonptr_text_edit.specs.Edited.{text_of, is_in_place, IfInPlace};
 ghost use Rattle.jsonptr_text_edit.specs.Edits.{EditsText, EditBytes};
 ghost use Rattle.jptr_tasks.specs.Reprinting.{KeepsGiven, KeepsGivenDigits, LosesDigits, LosesAt, LosesGiven, LosesIn, IsExactError};
 ghost use Rattle.jptr_tasks.specs.declared.reprint.ExactError.TheVariants as exact;
 
-use jsonptr_numbers::{Lost, find_lost};
+use jsonptr_text_digits::{Lost, find_lost};
 use jsonptr_text_edit::{Buffers, Edit, EditError, Edited, RawOperation, edit_text};
 use std::alloc::{AllocError, Global};
 

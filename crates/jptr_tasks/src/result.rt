@@ -8,7 +8,7 @@ use crate::layout::{Layout, lay_out, show};
 use crate::task::Task;
 use crate::task_error::TaskError;
 use jsonptr::Pointer;
-use jsonptr_edit_in_text::{Buffers, LocateError, locate};
+use jsonptr_text_step::{Buffers, LocateError, locate};
 use serde_json::Value;
 use std::alloc::Global;
 

@@ -5,15 +5,15 @@ ghost use Rattle.jptr_tasks.specs.declared.task_error.TaskError.TheVariants.{Mem
 
 use crate::exit_status::{BAD_INPUT, FILE, MEMORY, NO, NOT_MADE};
 use jsonptr::{assign, resolve};
-use jsonptr_edit_in_text::LocateError;
-use jsonptr_in_text::InTextError;
 use jsonptr_io::input::InputError;
 use jsonptr_io::write::WriteError;
 use jsonptr_patch::FailedOperation;
 use jsonptr_patch_document::PatchDocumentError;
-use jsonptr_paths::build::{BuildError, LineError};
-use jsonptr_relayout::RelayoutError;
 use jsonptr_text_edit::{EditError, RenameError};
+use jsonptr_text_paths::build::{BuildError, LineError};
+use jsonptr_text_relayout::RelayoutError;
+use jsonptr_text_resolve::InTextError;
+use jsonptr_text_step::LocateError;
 use jsonptr_text_value::PatchTextError;
 use jsonptr_value::{MAX_DEPTH, ReadError};
 use std::alloc::AllocError;

@@ -6,9 +6,9 @@ ghost use Rattle.serde_json.specs.View.{view};
 ghost use Rattle.serde_json.specs.declared.value.Value.{Value};
 ghost use Rattle.jsonptr_c_handle.specs.Handle.{IsEmpty, Keeps};
 ghost use Rattle.jsonptr_c_calls.specs.Depths.{IsBounded};
-ghost use Rattle.jsonptr_numbers.specs.Digits.{KeepsDigits};
-ghost use Rattle.jsonptr_numbers.specs.Lost.{Loses};
-ghost use Rattle.jsonptr_numbers.specs.declared.lost.Lost.{Lost};
+ghost use Rattle.jsonptr_text_digits.specs.Digits.{KeepsDigits};
+ghost use Rattle.jsonptr_text_digits.specs.Lost.{Loses};
+ghost use Rattle.jsonptr_text_digits.specs.declared.lost.Lost.{Lost};
 ghost use Rattle.jsonptr_c_calls.specs.Editing.{AssignsAtPointer, DeletesAtPointer, IsNotDeleted, IsTextNotAssigned};
 ghost use Rattle.jsonptr_c_calls.specs.Exactness.{IsNotParsedBy, IsNotPointedTo, PointsTo};
 ghost use Rattle.jsonptr_c_calls.specs.Failures.{FailsOnHandle, IsNotParsed, IsNotPrinted, IsNotRead, Unfound};
@@ -25,7 +25,7 @@ use jsonptr_c_calls::node::NodeInfo;
 use jsonptr_c_calls::outcome::{fail, fail_with_length, succeed};
 use jsonptr_c_calls::{documents, texts};
 use jsonptr_c_handle::handle::Handle;
-use jsonptr_in_text::Format;
+use jsonptr_text_resolve::Format;
 use std::alloc::Global;
 
 /// Returns the format that a flag asks for.

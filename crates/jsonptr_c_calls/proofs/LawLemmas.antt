@@ -17,10 +17,10 @@ use Rattle.jsonptr.proofs.Calling.{IsPointer-text, map_of-IsTree, map_of-finite,
 use Rattle.jsonptr.specs.Grammar.{IsPointer}
 use Rattle.jsonptr_c_handle.specs.declared.handle.Handle.{Handle}
 use Rattle.jsonptr_c_calls.specs.Editing.{IsNotAssigned, IsNotDeleted, IsTextNotAssigned, RefusesAt}
-use Rattle.jsonptr_numbers.specs.declared.lost.Lost.{Lost}
+use Rattle.jsonptr_text_digits.specs.declared.lost.Lost.{Lost}
 use Rattle.jsonptr_c_calls.specs.Exactness.{IsNotParsedExactly, LacksPointerOfNumber}
 use Rattle.jsonptr_c_calls.specs.Failures.{FailsOnHandle, IsNoPointer, IsNoToken, IsNotEscaped, IsNotExtended, IsNotParsed, IsNotPopped, IsNotPrinted, IsNotPushed, IsNotRead, IsNotUtf8, IsOutOfMemory, LacksRoom, LacksString, LacksToken, SameStatus, Unfound}
-use Rattle.jsonptr_in_text.specs.InText.{FindsInText}
+use Rattle.jsonptr_text_resolve.specs.InText.{FindsInText}
 use Rattle.jsonptr_c_calls.specs.Locations.{IsNotLocated, LacksLocation}
 use Rattle.jsonptr_c_calls.specs.InTexts.{FindsAtPointerInText, IsNotInText, IsNotPrintedFrom, LacksValue}
 use Rattle.jsonptr_patch.specs.Patching.{PatchesBy, FailsBy}
@@ -35,7 +35,7 @@ use Rattle.jsonptr_c_calls.specs.declared.call_error.Argument.{Argument}
 use Rattle.jsonptr_c_calls.specs.declared.call_error.Argument.TheVariants as argument
 use Rattle.jsonptr_c_calls.specs.declared.call_error.CallError.{CallError}
 use Rattle.jsonptr_c_calls.specs.declared.call_error.CallError.TheVariants.{NoRoom, NoDocument, NotUtf8, NotJson, NotExact, NotPointer, NoToken, Resolve, NotLocated, OtherType, Assign, NotPatch, PatchFailed, TooDeep, InverseTooDeep}
-use Rattle.jsonptr_in_text.specs.declared.format.Format.{Format}
+use Rattle.jsonptr_text_resolve.specs.declared.format.Format.{Format}
 use Rattle.jsonptr_c_calls.specs.Depths.{max_levels, StaysShallow}
 
 -- a JSON value is a document

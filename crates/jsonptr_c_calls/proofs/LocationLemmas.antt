@@ -1,7 +1,7 @@
 -- The offsets of a value in its text.
 use Rattle.std.proofs.Common.{◌≡◌, ℕ, ◌+◌, ◌-◌, ◌≤◌, List, ◌++◌, length, ap, refl, arith, length-append}
 use Rattle.jsonptr.specs.Text.{Text}
-use Rattle.jsonptr_edit_in_text.specs.Locating.{IsLocated}
+use Rattle.jsonptr_text_step.specs.Locating.{IsLocated}
 use Rattle.jsonptr_c_calls.specs.Locations.{LocatesInText}
 use Rattle.jsonptr_c_calls.specs.Pointers.{HasTokens}
 

@@ -27,13 +27,13 @@ use Rattle.jsonptr.specs.Text.{Text, esc, text}
 use Rattle.jsonptr.specs.Types.ParseError.{ParseError}
 use Rattle.jsonptr.proofs.Calling.{ascends_read, map_of-IsTree, map_of-finite, text_one, FindsValue_one, Names-root, Refuses-NamesNothing}
 use Rattle.jsonptr_tree.proofs.AssigningLemmas.{Assigns-LandsNowhere}
-use Rattle.jsonptr_in_text.specs.InText.{FindsInText}
-use Rattle.jsonptr_in_text.specs.declared.format.Format.{Format}
-use Rattle.jsonptr_in_text.specs.declared.format.Format.TheVariants.{Compact, Pretty}
-use Rattle.jsonptr_numbers.specs.Digits.{AreKept, KeepsDigits}
-use Rattle.jsonptr_numbers.specs.Kept.{IsKeptNumber, IsLost}
-use Rattle.jsonptr_numbers.specs.Lost.{Loses}
-use Rattle.jsonptr_numbers.specs.declared.lost.Lost.{Lost}
+use Rattle.jsonptr_text_resolve.specs.InText.{FindsInText}
+use Rattle.jsonptr_text_resolve.specs.declared.format.Format.{Format}
+use Rattle.jsonptr_text_resolve.specs.declared.format.Format.TheVariants.{Compact, Pretty}
+use Rattle.jsonptr_text_digits.specs.Digits.{AreKept, KeepsDigits}
+use Rattle.jsonptr_text_digits.specs.Kept.{IsKeptNumber, IsLost}
+use Rattle.jsonptr_text_digits.specs.Lost.{Loses}
+use Rattle.jsonptr_text_digits.specs.declared.lost.Lost.{Lost}
 use Rattle.jsonptr_patch.specs.Inverse.{TakesAllBackBy}
 use Rattle.jsonptr_patch.specs.Order.{OperationHasSortedKeys}
 use Rattle.jsonptr_patch.specs.Patching.{PatchesBy, FailsBy}

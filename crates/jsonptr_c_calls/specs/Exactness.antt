@@ -4,8 +4,8 @@ use Rattle.std.specs.Float.{Float}
 use Rattle.serde_json.specs.Data.{Data, float}
 use Rattle.serde_json.specs.Read.{read, number_of}
 use Rattle.jsonptr.specs.Text.{Text, text}
-use Rattle.jsonptr_numbers.specs.Lost.{Loses}
-use Rattle.jsonptr_numbers.specs.declared.lost.Lost.{Lost}
+use Rattle.jsonptr_text_digits.specs.Lost.{Loses}
+use Rattle.jsonptr_text_digits.specs.declared.lost.Lost.{Lost}
 use Rattle.jsonptr_c_calls.specs.Failures.{IsNotParsed, LacksRoom}
 use Rattle.jsonptr_c_calls.specs.Pointers.{HasTokens}
 use Rattle.jsonptr_c_calls.specs.declared.call_error.CallError.{CallError}

@@ -17,7 +17,7 @@ use Rattle.jsonptr_c_handle.specs.declared.handle.Handle.{Handle}
 use Rattle.jsonptr_c_calls.specs.Pointers.{ParsesTo}
 use Rattle.jsonptr_c_calls.specs.ErrorNumbers.{status_number}
 use Rattle.jsonptr_c_calls.specs.Values.{FindsAtPointer, IsJsonText}
-use Rattle.jsonptr_in_text.specs.declared.format.Format.{Format}
+use Rattle.jsonptr_text_resolve.specs.declared.format.Format.{Format}
 use Rattle.jsonptr_c_calls.specs.declared.call_error.Argument.{Argument}
 use Rattle.jsonptr_c_calls.specs.declared.call_error.Argument.TheVariants as argument
 use Rattle.jsonptr_c_calls.specs.declared.call_error.CallError.{CallError}

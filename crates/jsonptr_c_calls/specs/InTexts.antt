@@ -5,12 +5,12 @@ use Rattle.serde_json.specs.View.{view}
 use Rattle.serde_json.specs.Written.{has_float}
 use Rattle.serde_json.specs.declared.value.Value.{Value}
 use Rattle.jsonptr.specs.Text.{Text}
-use Rattle.jsonptr_in_text.specs.InText.{FindsInText, RefusesInText}
+use Rattle.jsonptr_text_resolve.specs.InText.{FindsInText, RefusesInText}
 use Rattle.jsonptr.specs.declared.resolve.Error as resolve
 use Rattle.jsonptr_c_calls.specs.Failures.{IsNoPointer, IsNotUtf8, IsOutOfMemory, LacksRoom}
 use Rattle.jsonptr_c_calls.specs.Pointers.{HasTokens, ParsesTo}
 use Rattle.jsonptr_c_calls.specs.Values.{IsJsonText}
-use Rattle.jsonptr_in_text.specs.declared.format.Format.{Format}
+use Rattle.jsonptr_text_resolve.specs.declared.format.Format.{Format}
 use Rattle.jsonptr_c_calls.specs.declared.call_error.Argument.TheVariants as argument
 use Rattle.jsonptr_c_calls.specs.declared.call_error.CallError.{CallError}
 use Rattle.jsonptr_c_calls.specs.declared.call_error.CallError.TheVariants.{NotJson, Resolve}

@@ -2,8 +2,8 @@
 use Rattle.std.specs.Prelude.{◌≡◌, ◌⊎◌, ◌+◌, [], ℕ, IsUtf8, List, length}
 use Rattle.serde_json.specs.Data.{Data}
 use Rattle.jsonptr.specs.Text.{Text, text}
-use Rattle.jsonptr_in_text.specs.InText.{FindsInText}
-use Rattle.jsonptr_edit_in_text.specs.Locating.{IsLocated, IsLocatedAt, IsOutside}
+use Rattle.jsonptr_text_resolve.specs.InText.{FindsInText}
+use Rattle.jsonptr_text_step.specs.Locating.{IsLocated, IsLocatedAt, IsOutside}
 use Rattle.jsonptr_c_calls.specs.Failures.{IsNoPointer, IsNotUtf8, IsOutOfMemory, LacksRoom}
 use Rattle.jsonptr_c_calls.specs.InTexts.{LacksValue}
 use Rattle.jsonptr_c_calls.specs.Pointers.{HasTokens, ParsesTo}

@@ -15,11 +15,11 @@ use Rattle.jsonptr_patch_document.specs.Document.{IsPatch, IsNoPatch}
 use Rattle.jsonptr_patch_document.specs.Writing.{document_of}
 use Rattle.jsonptr_patch_document.specs.declared.error.PatchDocumentError.{PatchDocumentError}
 use Rattle.jsonptr_c_handle.specs.declared.handle.Handle.{Handle}
-use Rattle.jsonptr_diff.specs.Diff.{IsChange, StepsTo}
+use Rattle.jsonptr_patch_diff.specs.Diff.{IsChange, StepsTo}
 use Rattle.jsonptr_c_calls.specs.Depths.{StaysShallow}
 use Rattle.jsonptr_c_calls.specs.Failures.{FailsOnHandle, IsNotParsed, IsOutOfMemory, LacksRoom}
 use Rattle.jsonptr_c_calls.specs.Values.{IsJsonText}
-use Rattle.jsonptr_in_text.specs.declared.format.Format.{Format}
+use Rattle.jsonptr_text_resolve.specs.declared.format.Format.{Format}
 use Rattle.jsonptr_c_calls.specs.declared.call_error.CallError.{CallError}
 use Rattle.jsonptr_c_calls.specs.declared.call_error.CallError.TheVariants.{NotPatch, PatchFailed, TooDeep, InverseTooDeep}
 

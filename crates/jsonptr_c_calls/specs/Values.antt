@@ -10,8 +10,8 @@ use Rattle.jsonptr_value.specs.JsonText.{IsCompact, IsPretty}
 use Rattle.jsonptr_c_handle.specs.Handle.{Holds}
 use Rattle.jsonptr_c_handle.specs.declared.handle.Handle.{Handle}
 use Rattle.jsonptr_c_calls.specs.Pointers.{HasTokens}
-use Rattle.jsonptr_in_text.specs.declared.format.Format.{Format}
-use Rattle.jsonptr_in_text.specs.declared.format.Format.TheVariants.{Compact, Pretty}
+use Rattle.jsonptr_text_resolve.specs.declared.format.Format.{Format}
+use Rattle.jsonptr_text_resolve.specs.declared.format.Format.TheVariants.{Compact, Pretty}
 
 -- `FindsAtPointer d bytes e`: the pointer `bytes` resolves to the value `e` of the document `d`
 abbrev pub FindsAtPointer : Data → List ℕ → Data → Type 0

@@ -3,9 +3,9 @@ ghost use Rattle.std.specs.Prelude.{◌≡◌};
 ghost use Rattle.jsonptr_c_calls.specs.declared.call_error.CallError.TheVariants.{Memory};
 
 use jsonptr::{ParseError, assign, resolve};
-use jsonptr_numbers::Lost;
 use jsonptr_patch::FailedOperation;
 use jsonptr_patch_document::PatchDocumentError;
+use jsonptr_text_digits::Lost;
 use std::alloc::AllocError;
 
 /// A text that is passed to a call.

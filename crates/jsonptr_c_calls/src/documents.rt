@@ -5,7 +5,7 @@ ghost use Rattle.serde_json.specs.View.{view};
 ghost use Rattle.serde_json.specs.declared.value.Value.{Value as JsonValue};
 ghost use Rattle.jsonptr_c_handle.specs.Handle.{Holds, IsEmpty, Keeps};
 ghost use Rattle.jsonptr_c_calls.specs.Depths.{IsBounded};
-ghost use Rattle.jsonptr_numbers.specs.Digits.{KeepsDigits};
+ghost use Rattle.jsonptr_text_digits.specs.Digits.{KeepsDigits};
 ghost use Rattle.jsonptr_c_calls.specs.Exactness.{IsNotParsedExactly};
 ghost use Rattle.jsonptr_c_calls.specs.Editing.{AssignsAtPointer, DeletesAtPointer, IsNotDeleted, IsTextNotAssigned};
 ghost use Rattle.jsonptr_c_calls.specs.Failures.{FailsOnHandle, IsNotParsed, IsNotPrinted, IsNotRead, LacksRoom, Unfound};
@@ -19,7 +19,7 @@ use crate::patches::Patched;
 use crate::read::{read, read_exactly};
 use crate::{edit, patches, values};
 use jsonptr_c_handle::handle::Handle;
-use jsonptr_in_text::Format;
+use jsonptr_text_resolve::Format;
 use serde_json::Value;
 use std::alloc::{AllocError, Global};
 

@@ -9,8 +9,8 @@ ghost use Rattle.jsonptr.specs.Text.{Text, esc};
 ghost use Rattle.jsonptr_c_handle.specs.declared.handle.Handle.{Handle};
 ghost use Rattle.jsonptr_patch.specs.declared.operation.Operation.{Operation};
 ghost use Rattle.jsonptr_c_calls.specs.Editing.{AssignsAtPointer, DeletesAtPointer, IsNotDeleted, IsTextNotAssigned};
-ghost use Rattle.jsonptr_numbers.specs.Digits.{KeepsDigits};
-ghost use Rattle.jsonptr_numbers.specs.declared.lost.Lost.{Lost};
+ghost use Rattle.jsonptr_text_digits.specs.Digits.{KeepsDigits};
+ghost use Rattle.jsonptr_text_digits.specs.declared.lost.Lost.{Lost};
 ghost use Rattle.jsonptr_c_calls.specs.Exactness.{IsNotParsedBy, IsNotParsedExactly, IsNotPointedTo, LacksPointerOfFloat, LacksPointerOfLost, LacksPointerOfNumber, LosesDigitsOfFloat};
 ghost use Rattle.jsonptr_c_calls.specs.Failures.{FailsOnHandle, IsNoPointer, IsNoToken, IsNotEscaped, IsNotParsed, IsNotPopped, IsNotPrinted, IsNotPushed, IsNotRead, IsNotWritten, IsOutOfMemory, IsTooShort, LacksRoomForFloat, SameStatus, Unfound};
 ghost use Rattle.jsonptr_c_calls.specs.InTexts.{FindsTextIn, IsNotPrintedFrom, LacksRoomForFloatIn};
@@ -25,7 +25,7 @@ ghost use Rattle.jsonptr_c_calls.specs.declared.call_error.CallError.{CallError}
 ghost use Rattle.jsonptr_c_calls.specs.declared.call_error.CallError.TheVariants.{NotLocated};
 ghost use Rattle.jsonptr_c_calls.specs.declared.error_numbers.ErrorRecord.{ErrorRecord};
 ghost use Rattle.jsonptr_c_calls.specs.declared.node.NodeInfo.{NodeInfo};
-ghost use Rattle.jsonptr_in_text.specs.declared.format.Format.{Format};
+ghost use Rattle.jsonptr_text_resolve.specs.declared.format.Format.{Format};
 
 use jsonptr::laws::parse_law;
 use jsonptr_patch::laws::patch::comparing_patch_law;

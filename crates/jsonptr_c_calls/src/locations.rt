@@ -1,14 +1,14 @@
 //! Where values are in a JSON text that is not read into a document.
 ghost use Rattle.std.specs.Prelude.{◌≡◌, ◌≤◌, IfErr, IfOk, IsUtf8, List, OnErr, OnOk, length, take};
 ghost use Rattle.jsonptr.specs.Text.{Text};
-ghost use Rattle.jsonptr_edit_in_text.specs.Locating.{IsLocateError};
+ghost use Rattle.jsonptr_text_step.specs.Locating.{IsLocateError};
 ghost use Rattle.jsonptr_c_calls.specs.Locations.{IsNotLocated, IsNotPointedAt, LacksLocation, LocatesInText, PointsAt};
 
 use crate::buffer::copy_to;
 use crate::call_error::{Argument, CallError};
 use crate::pointers::{parse, text_of};
 use crate::read::stop;
-use jsonptr_edit_in_text::{Buffers, LocateError};
+use jsonptr_text_step::{Buffers, LocateError};
 use std::alloc::Global;
 
 /// The bytes of a value in a JSON text.
@@ -47,7 +47,7 @@ pub fn locate(alloc: Global, text: &[u8], pointer: &[u8]) -> Result<TextSpan, Ca
     let pointer = parse(pointer)?;
     let text = text_of(Argument::Text, text)?;
     let mut buffers = Buffers::new(alloc);
-    match jsonptr_edit_in_text::locate(&mut buffers, text, pointer) {
+    match jsonptr_text_step::locate(&mut buffers, text, pointer) {
         Ok(located) => Ok(TextSpan {
             start: located.before.len(),
             end: text.len() - located.after.len(),
@@ -92,7 +92,7 @@ pub fn pointer_at(
 {
     let text = text_of(Argument::Text, text)?;
     let mut buffers = Buffers::new(alloc);
-    match jsonptr_edit_in_text::pointer_at(&mut buffers, text, offset) {
+    match jsonptr_text_step::pointer_at(&mut buffers, text, offset) {
         Ok(Some(found)) => copy_to(found.pointer.as_ptr().as_str().as_bytes(), out),
         Ok(None) => Err(CallError::NoValue { offset }),
         Err(error) => Err(location_error(alloc, text, error)),

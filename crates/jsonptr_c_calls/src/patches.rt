@@ -20,13 +20,13 @@ use crate::depths::stays_shallow;
 use crate::read::read;
 use crate::values::json_text;
 use jsonptr::Fault;
-use jsonptr_diff::diff;
-use jsonptr_in_text::Format;
 use jsonptr_patch::{
     Comparison, Operation, apply_naming_pointer, apply_naming_pointer_with_inverse,
 };
+use jsonptr_patch_diff::diff;
 use jsonptr_patch_document::laws::{patch_document_law, writing_law};
 use jsonptr_patch_document::{read_patch, write_patch};
+use jsonptr_text_resolve::Format;
 use jsonptr_value::{MAX_DEPTH, copy, nests_within};
 use serde_json::Value;
 use std::alloc::{AllocError, Global};

@@ -6,12 +6,12 @@ ghost use Rattle.serde_json.specs.View.{view};
 ghost use Rattle.jsonptr_c_calls.specs.Depths.{IsParsed};
 ghost use Rattle.jsonptr_c_calls.specs.Exactness.{IsNotParsedExactly};
 ghost use Rattle.jsonptr_c_calls.specs.Failures.{IsNotParsed};
-ghost use Rattle.jsonptr_numbers.specs.Digits.{KeepsDigits};
-ghost use Rattle.jsonptr_numbers.specs.Lost.{Loses};
+ghost use Rattle.jsonptr_text_digits.specs.Digits.{KeepsDigits};
+ghost use Rattle.jsonptr_text_digits.specs.Lost.{Loses};
 
 use crate::call_error::{Argument, CallError};
 use crate::pointers::text_of;
-use jsonptr_numbers::{Lost, find_lost};
+use jsonptr_text_digits::{Lost, find_lost};
 use serde_json::{Error, Value};
 use std::alloc::{AllocError, Global};
 

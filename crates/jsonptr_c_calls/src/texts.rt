@@ -2,9 +2,9 @@
 ghost use Rattle.std.specs.Prelude.{◌≡◌, ◌≤◌, IfErr, IfOk, IfSome, IsUtf8, MatchOption, OnErr, OnOk, Some, length, take};
 ghost use Rattle.serde_json.specs.Data.{Data};
 ghost use Rattle.serde_json.specs.Read.{read as read_text};
-ghost use Rattle.jsonptr_numbers.specs.Digits.{KeepsDigits};
-ghost use Rattle.jsonptr_numbers.specs.Lost.{Loses};
-ghost use Rattle.jsonptr_numbers.specs.declared.lost.Lost.{Lost as SpecLost};
+ghost use Rattle.jsonptr_text_digits.specs.Digits.{KeepsDigits};
+ghost use Rattle.jsonptr_text_digits.specs.Lost.{Loses};
+ghost use Rattle.jsonptr_text_digits.specs.declared.lost.Lost.{Lost as SpecLost};
 ghost use Rattle.jsonptr_c_calls.specs.Exactness.{IsNotPointedTo, LacksPointerOfNumber, PointsTo};
 ghost use Rattle.jsonptr_c_calls.specs.InTexts.{FindsAtPointerInText, FindsTextIn, IsNotInText, IsNotPrintedFrom};
 
@@ -13,8 +13,8 @@ use crate::call_error::{Argument, CallError};
 use crate::pointers::{parse, text_of};
 use crate::read::{lost_of, read, stop};
 use crate::values::json_text;
-use jsonptr_in_text::{Format, InTextError, resolve_in_text};
-use jsonptr_numbers::Lost;
+use jsonptr_text_digits::Lost;
+use jsonptr_text_resolve::{Format, InTextError, resolve_in_text};
 use serde_json::Value;
 use std::alloc::Global;
 

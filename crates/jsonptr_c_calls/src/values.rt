@@ -8,7 +8,7 @@ use crate::buffer::copy_to;
 use crate::call_error::CallError;
 use crate::pointers::parse;
 use jsonptr::Fault;
-use jsonptr_in_text::Format;
+use jsonptr_text_resolve::Format;
 use serde_json::Value;
 use std::alloc::{AllocError, Global};
 

@@ -4,7 +4,7 @@ use Rattle.serde_json.specs.Data.{Data}
 use Rattle.serde_json.specs.Read.{read}
 use Rattle.jsonptr.specs.Text.{Text}
 use Rattle.jsonptr_comments.specs.Comments.{IsWithoutComments, IsPlain}
-use Rattle.jsonptr_edit_with_comments.specs.EditWithComments.{Becomes}
+use Rattle.jsonptr_comments_step.specs.EditWithComments.{Becomes}
 use Rattle.jsonptr_text_edit.proofs.EditLemmas.{edits_reads}
 use Rattle.jsonptr_text_edit.specs.Edits.{EditsText}
 use Rattle.jsonptr_text_edit.specs.Errors.{IsEditError}

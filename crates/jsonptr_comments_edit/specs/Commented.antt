@@ -3,12 +3,12 @@ use Rattle.std.specs.Prelude.{◌≡◌, ◌⊎◌, ⊤}
 use Rattle.jsonptr.specs.Pointer.{tokens}
 use Rattle.jsonptr.specs.Text.{Text}
 use Rattle.jsonptr_comments.specs.Comments.{IsWithoutComments}
-use Rattle.jsonptr_edit_in_text.specs.Bytes.{DeletesBytes}
-use Rattle.jsonptr_edit_in_text.specs.Giving.{AssignsGiven}
-use Rattle.jsonptr_edit_in_text.specs.Renaming.{RenamesBytes}
-use Rattle.jsonptr_edit_with_comments.specs.EditWithComments.{EditsAs}
-use Rattle.jsonptr_edit_with_comments.specs.Edits.{IsRenaming}
-use Rattle.jsonptr_edit_with_comments.specs.Patches.{EditsAt, PatchEdits, CommentedPatchBytes}
+use Rattle.jsonptr_text_step.specs.Bytes.{DeletesBytes}
+use Rattle.jsonptr_text_step.specs.Giving.{AssignsGiven}
+use Rattle.jsonptr_text_step.specs.Renaming.{RenamesBytes}
+use Rattle.jsonptr_comments_step.specs.EditWithComments.{EditsAs}
+use Rattle.jsonptr_comments_step.specs.Edits.{IsRenaming}
+use Rattle.jsonptr_comments_step.specs.Patches.{EditsAt, PatchEdits, CommentedPatchBytes}
 use Rattle.jsonptr_text_value.specs.Operations.{operations_in}
 use Rattle.jsonptr_text_edit.specs.Errors.{IsEditError}
 use Rattle.jsonptr_text_edit.specs.declared.edit.Edit.{Edit}

@@ -1,7 +1,7 @@
 //! Editing a text with comments.
 ghost use Rattle.std.specs.Prelude.{IfOk, IfErr};
-ghost use Rattle.jsonptr_edit_in_text.specs.OneLine.{StaysOneLine};
-ghost use Rattle.jsonptr_edit_with_comments.specs.EditWithComments.{Becomes};
+ghost use Rattle.jsonptr_text_step.specs.OneLine.{StaysOneLine};
+ghost use Rattle.jsonptr_comments_step.specs.EditWithComments.{Becomes};
 ghost use Rattle.jsonptr_text_edit.specs.Edited.{text_of, IfInPlace};
 ghost use Rattle.jsonptr_text_edit.specs.Edits.{EditsText};
 ghost use Rattle.jsonptr_comments_edit.specs.Commented.{CommentedBytes, IsCommentedError};
@@ -9,8 +9,8 @@ ghost use Rattle.jsonptr_comments_edit.specs.Commented.{CommentedBytes, IsCommen
 use crate::kinds::make;
 use crate::reprint::reprint;
 use jsonptr_comments::CommentedText;
-use jsonptr_edit_in_text::stays_one_line;
 use jsonptr_text_edit::{Buffers, Edit, EditError, Edited};
+use jsonptr_text_step::stays_one_line;
 
 /// Makes the edit in the document that the text with comments contains, and returns the new text.
 ///

@@ -3,8 +3,8 @@ ghost use Rattle.std.specs.Prelude.{◌≡◌, IfOk, IfErr, IfSome, MatchOption,
 ghost use Rattle.std.proofs.Props.{props};
 ghost use Rattle.jsonptr.specs.Text.{Text};
 ghost use Rattle.jsonptr_comments.specs.Faults.{IsCommentFault};
-ghost use Rattle.jsonptr_edit_in_text.specs.OneLine.{StaysOneLine};
-ghost use Rattle.jsonptr_edit_with_comments.specs.EditWithComments.{Becomes};
+ghost use Rattle.jsonptr_text_step.specs.OneLine.{StaysOneLine};
+ghost use Rattle.jsonptr_comments_step.specs.EditWithComments.{Becomes};
 ghost use Rattle.jsonptr_text_edit.specs.Edited.{text_of, IfInPlace};
 ghost use Rattle.jsonptr_text_edit.specs.Edits.{EditsText};
 ghost use Rattle.jsonptr_comments_edit.specs.Commented.{CommentedBytes, IsCommentedError};

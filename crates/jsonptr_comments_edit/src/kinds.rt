@@ -1,11 +1,11 @@
 //! An edit of a text with comments by its kind, in place.
 ghost use Rattle.std.specs.Prelude.{IfOk, IfSome, string_bytes};
-ghost use Rattle.jsonptr_edit_with_comments.specs.EditWithComments.{Becomes};
+ghost use Rattle.jsonptr_comments_step.specs.EditWithComments.{Becomes};
 ghost use Rattle.jsonptr_text_edit.specs.Edits.{EditsText};
 ghost use Rattle.jsonptr_comments_edit.specs.Commented.{CommentedBytes};
 
 use jsonptr_comments::CommentedText;
-use jsonptr_edit_with_comments::{
+use jsonptr_comments_step::{
     apply_with_comments, assign_with_comments, delete_with_comments, rename_with_comments,
 };
 use jsonptr_text_edit::{Buffers, Edit};

@@ -2,7 +2,7 @@
 ghost use Rattle.std.specs.Prelude.{◌≡◌, Some, IfOk, IfErr, string_bytes};
 ghost use Rattle.serde_json.specs.Data.{Data};
 ghost use Rattle.serde_json.specs.Read.{read};
-ghost use Rattle.jsonptr_edit_with_comments.specs.EditWithComments.{Becomes};
+ghost use Rattle.jsonptr_comments_step.specs.EditWithComments.{Becomes};
 ghost use Rattle.jsonptr_text_edit.specs.Edits.{EditsText};
 ghost use Rattle.jsonptr_text_edit.specs.Errors.{IsEditError};
 ghost use Rattle.jsonptr_comments_edit.specs.Commented.{IsCommentedError};

@@ -2,8 +2,8 @@
 use Rattle.std.proofs.Common.{◌≡◌, ℕ, List, [], ◌∷◌, ◌++◌, length, Bool, true, false, ◌||◌, IsTrue, ◌↔◌, true≢false, refl, sym, subst}
 use Rattle.json.specs.Token.{Token}
 use Rattle.serde_json.specs.Data.{Data, Members, put}
-use Rattle.jsonptr_json_search.specs.PrivateReading.{ItemsSoFar, MembersSoFar}
-use Rattle.jsonptr_json_search.proofs.ReadingLemmas.{items_go_on, members_go_on}
+use Rattle.jsonptr_text_search.specs.PrivateReading.{ItemsSoFar, MembersSoFar}
+use Rattle.jsonptr_text_search.proofs.ReadingLemmas.{items_go_on, members_go_on}
 use Rattle.jsonptr_json_edits.specs.PrivateEditing.{AddsItemIf, AddsMemberIf, ItemsAdded, MembersAdded, MayFollow}
 use Rattle.jsonptr_json_edits.proofs.ChildLemmas.{new_item, old_item, new_member, shadowed_member, old_member}
 

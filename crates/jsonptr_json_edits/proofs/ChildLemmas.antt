@@ -6,8 +6,8 @@ use Rattle.serde_json.specs.Data.{Data, no_items, Members, put}
 use Rattle.serde_json.specs.Find.{get_member, get_item}
 use Rattle.serde_json.specs.Read.{read}
 use Rattle.serde_json.proofs.Views.{get_member-put, get_member-put_other}
-use Rattle.jsonptr_json_search.specs.Search.{Choice}
-use Rattle.jsonptr_json_search.specs.PrivateReading.{with_items_before}
+use Rattle.jsonptr_text_search.specs.Search.{Choice}
+use Rattle.jsonptr_text_search.specs.PrivateReading.{with_items_before}
 use Rattle.jsonptr_json_edits.specs.declared.edit.Edit.{Edit}
 use Rattle.jsonptr_json_edits.specs.Editing.{OnlyItemDiffers, OnlyMemberDiffers, InsertsItem, InsertsMember, ChangesAt, Makes}
 use Rattle.jsonptr_json_edits.specs.PrivateEditing.{ChangesIf, ItemDiffers, ItemsSo, MembersSo, ItemAdded, ItemsAdded, MembersAdded, MayFollow}

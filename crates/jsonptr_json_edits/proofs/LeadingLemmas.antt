@@ -8,9 +8,9 @@ use Rattle.json.proofs.Grammar.{read_key_is}
 use Rattle.serde_json.specs.Data.{Data, array, object, Items, no_items, Members, put}
 use Rattle.serde_json.specs.Find.{get_member, get_item}
 use Rattle.serde_json.proofs.Views.{get_member-put, get_member-put_other}
-use Rattle.jsonptr_json_search.specs.declared.selector.Selector.{Selector}
-use Rattle.jsonptr_json_search.specs.Search.{Choice, choice_of, choices, element, follow}
-use Rattle.jsonptr_json_search.specs.PrivateReading.{with_items_before}
+use Rattle.jsonptr_text_search.specs.declared.selector.Selector.{Selector}
+use Rattle.jsonptr_text_search.specs.Search.{Choice, choice_of, choices, element, follow}
+use Rattle.jsonptr_text_search.specs.PrivateReading.{with_items_before}
 use Rattle.jsonptr_json_edits.specs.Alike.{AreAlike}
 use Rattle.jsonptr_json_edits.specs.Leading.{LeadsToText, Passes, PassesValues, PassesMembers, BeginsAt, LeadsAt}
 use Rattle.jsonptr_json_edits.specs.PrivateEditing.{MayFollow}

@@ -6,9 +6,9 @@ use Rattle.json.specs.Json.{read_key}
 use Rattle.json.specs.Reads.{token_of}
 use Rattle.json.specs.declared.token.Token as Read
 use Rattle.serde_json.specs.Data.{Data}
-use Rattle.jsonptr_json_search.specs.Reading.{ReadsTokens}
-use Rattle.jsonptr_json_search.specs.PrivateReading.{scalar_of}
-use Rattle.jsonptr_json_search.proofs.ReadingLemmas.{scalar_reads}
+use Rattle.jsonptr_text_search.specs.Reading.{ReadsTokens}
+use Rattle.jsonptr_text_search.specs.PrivateReading.{scalar_of}
+use Rattle.jsonptr_text_search.proofs.ReadingLemmas.{scalar_reads}
 
 pub both_scalar : (one two : ℕ) (old new old2 new2 : List Token) (t : Read.Token) → old ≡ token_of t ∷ new → old2 ≡ token_of t ∷ new2 → (t ≡ Read.TheVariants.BeginArray → ⊥) → (t ≡ Read.TheVariants.BeginObject → ⊥) → is_some (scalar_of (token_of t)) ≡ true
     → (d : Data) × ReadsTokens one old d new × ReadsTokens two old2 d new2

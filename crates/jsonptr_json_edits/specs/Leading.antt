@@ -4,8 +4,8 @@ use Rattle.json.specs.Lex.{tokens}
 use Rattle.json.specs.Token.{Token}
 use Rattle.serde_json.specs.Data.{Data}
 use Rattle.serde_json.specs.Read.{read}
-use Rattle.jsonptr_json_search.specs.Reading.{ReadsTokens}
-use Rattle.jsonptr_json_search.specs.Search.{Choice, follow}
+use Rattle.jsonptr_text_search.specs.Reading.{ReadsTokens}
+use Rattle.jsonptr_text_search.specs.Search.{Choice, follow}
 
 -- `LeadsToText cs value d`: the selectors `cs` lead from `d` to the value of the text `value`
 abbrev pub LeadsToText : List Choice → List ℕ → Data → Type 0

@@ -5,8 +5,8 @@ use Rattle.json.specs.Json.{after_end_array, read_key}
 use Rattle.serde_json.specs.Data.{Data, Members}
 use Rattle.serde_json.specs.Find.{get_member}
 use Rattle.serde_json.specs.Read.{read}
-use Rattle.jsonptr_json_search.specs.Reading.{ReadsTokens}
-use Rattle.jsonptr_json_search.specs.Search.{Choice}
+use Rattle.jsonptr_text_search.specs.Reading.{ReadsTokens}
+use Rattle.jsonptr_text_search.specs.Search.{Choice}
 use Rattle.jsonptr_json_edits.specs.declared.edit.Edit.{Edit}
 use Rattle.jsonptr_json_edits.specs.Editing.{OnlyMemberDiffers, InsertsMember, ChangesAt, Makes}
 

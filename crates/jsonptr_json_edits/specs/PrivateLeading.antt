@@ -4,7 +4,7 @@ use Rattle.json.specs.Json.{read_key}
 use Rattle.json.specs.Lex.{tokens}
 use Rattle.json.specs.Token.{Token}
 use Rattle.serde_json.specs.Data.{Data}
-use Rattle.jsonptr_json_search.specs.Search.{Choice}
+use Rattle.jsonptr_text_search.specs.Search.{Choice}
 use Rattle.jsonptr_json_edits.specs.Alike.{AreAlike}
 use Rattle.jsonptr_json_edits.specs.Leading.{LeadsToText, Passes, PassesValues, PassesMembers, IsLastMember, LeadsAt}
 use Rattle.jsonptr_json_edits.specs.declared.decide.Step.{Step}

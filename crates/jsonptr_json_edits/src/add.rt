@@ -2,8 +2,8 @@
 ghost use Rattle.std.specs.Prelude.{◌≡◌, ◌<◌, ◌≤◌, length, Some, OnOk, string_bytes};
 ghost use Rattle.serde_json.specs.Data.{Data, Items, Members};
 ghost use Rattle.serde_json.specs.Read.{read};
-ghost use Rattle.jsonptr_json_search.specs.Reading.{ReadsTokens, ReadsItems, ReadsMembers};
-ghost use Rattle.jsonptr_json_search.specs.Search.{choice_of};
+ghost use Rattle.jsonptr_text_search.specs.Reading.{ReadsTokens, ReadsItems, ReadsMembers};
+ghost use Rattle.jsonptr_text_search.specs.Search.{choice_of};
 ghost use Rattle.jsonptr_json_edits.specs.Editing.{AddsElement, AddsChosenMember, InsertsItem, InsertsMember};
 ghost use Rattle.jsonptr_json_edits.specs.PrivateEditing.{AddsItemIf, AddsMemberIf};
 
@@ -12,8 +12,8 @@ use crate::decide::{FoundMember, Wanted, is_at, is_either, may_follow};
 use crate::edit::Child;
 use crate::same::{Readers, same, same_key, same_text, same_token};
 use json::{Scratch, Token};
-use jsonptr_json_search::decide::is_text;
-use jsonptr_json_search::skip::skip;
+use jsonptr_text_search::decide::is_text;
+use jsonptr_text_search::skip::skip;
 
 /// Passes over the next value of both. The longer one is an object with one member more.
 ///

@@ -2,8 +2,8 @@
 ghost use Rattle.std.specs.Prelude.{◌≡◌, ◌<◌, length, Some, OnOk, string_bytes};
 ghost use Rattle.serde_json.specs.Data.{Data, Items};
 ghost use Rattle.serde_json.specs.Read.{read};
-ghost use Rattle.jsonptr_json_search.specs.Reading.{ReadsTokens, ReadsItems};
-ghost use Rattle.jsonptr_json_search.specs.Search.{choice_of, items_count};
+ghost use Rattle.jsonptr_text_search.specs.Reading.{ReadsTokens, ReadsItems};
+ghost use Rattle.jsonptr_text_search.specs.Search.{choice_of, items_count};
 ghost use Rattle.jsonptr_json_edits.specs.Editing.{AppendsElement, InsertsItem};
 
 use crate::check_error::CheckError;

@@ -1,8 +1,8 @@
 //! Reading two texts side by side, which differ by one edit.
 ghost use Rattle.std.specs.Prelude.{◌<◌, length, OnOk, IfOk, IsTrue};
 ghost use Rattle.serde_json.specs.Data.{Data, Items, Members};
-ghost use Rattle.jsonptr_json_search.specs.Reading.{ReadsTokens, ReadsItems, ReadsMembers};
-ghost use Rattle.jsonptr_json_search.specs.Search.{choices};
+ghost use Rattle.jsonptr_text_search.specs.Reading.{ReadsTokens, ReadsItems, ReadsMembers};
+ghost use Rattle.jsonptr_text_search.specs.Search.{choices};
 ghost use Rattle.jsonptr_json_edits.specs.Editing.{OnlyItemDiffers, OnlyMemberDiffers, ChangesAt, Makes, IsEdited};
 ghost use Rattle.jsonptr_json_edits.specs.PrivateEditing.{ChangesIf};
 
@@ -15,7 +15,7 @@ use crate::edit::{Edit, EditAt};
 use crate::rename::rename;
 use crate::same::{Readers, same, same_key, same_text, same_token};
 use json::{Reader, Scratch, Token};
-use jsonptr_json_search::decide::is_text;
+use jsonptr_text_search::decide::is_text;
 use jsonptr_value::MAX_DEPTH;
 use std::alloc::AllocError;
 

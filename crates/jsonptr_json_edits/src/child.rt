@@ -14,8 +14,8 @@ use crate::locate::{Extent, trimmed_end};
 use crate::same::same_text;
 use crate::spacing::{is_blank, is_colon, is_comma, is_trimmed};
 use json::{Reader, Scratch, Token};
-use jsonptr_json_search::decide::is_text;
-use jsonptr_json_search::skip::skip;
+use jsonptr_text_search::decide::is_text;
+use jsonptr_text_search::skip::skip;
 use jsonptr_value::MAX_DEPTH;
 use std::alloc::AllocError;
 

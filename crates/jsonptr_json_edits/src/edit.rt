@@ -1,6 +1,6 @@
 //! The edits of a text.
 
-use jsonptr_json_search::selector::Selector;
+use jsonptr_text_search::selector::Selector;
 
 /// What an edit does to the value at its location. It owns the JSON texts that it names.
 #[derive(Debug, Drop)]

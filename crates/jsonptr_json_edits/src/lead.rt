@@ -2,8 +2,8 @@
 ghost use Rattle.std.specs.Prelude.{◌<◌, length, OnOk, IfOk, IsTrue};
 ghost use Rattle.serde_json.specs.Data.{Data, Items, Members};
 ghost use Rattle.serde_json.specs.Find.{get_member, get_item};
-ghost use Rattle.jsonptr_json_search.specs.Reading.{ReadsTokens, ReadsItems, ReadsMembers};
-ghost use Rattle.jsonptr_json_search.specs.Search.{choices};
+ghost use Rattle.jsonptr_text_search.specs.Reading.{ReadsTokens, ReadsItems, ReadsMembers};
+ghost use Rattle.jsonptr_text_search.specs.Search.{choices};
 ghost use Rattle.jsonptr_json_edits.specs.Leading.{LeadsToText, LeadsInText, BeginsAt};
 ghost use Rattle.jsonptr_json_edits.specs.PrivateLeading.{LeadsIf, ChildLeads, Placed, PlacedIf, KeyIf, PlacesElement, EndsMember};
 
@@ -12,9 +12,9 @@ use crate::check_error::CheckError;
 use crate::decide::{Step, Wanted, is_at, is_either, may_follow, step_of};
 use crate::same::{Readers, same, same_key, same_text};
 use json::{Invalid, Reader, Scratch, Token};
-use jsonptr_json_search::decide::is_text;
-use jsonptr_json_search::selector::Selector;
-use jsonptr_json_search::skip::skip;
+use jsonptr_text_search::decide::is_text;
+use jsonptr_text_search::selector::Selector;
+use jsonptr_text_search::skip::skip;
 use jsonptr_value::MAX_DEPTH;
 use std::alloc::AllocError;
 

@@ -1,7 +1,7 @@
 //! Replaces a piece of a JSON text, and shows by reading both texts that the new one is the old one
 //! with one edit.
 //!
-//! This crate knows no JSON Pointers. `jsonptr_edit_in_text` edits at pointers with it.
+//! This crate knows no JSON Pointers. `jsonptr_text_step` edits at pointers with it.
 #![tactic(auto)]
 
 mod add;

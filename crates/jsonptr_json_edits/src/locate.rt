@@ -5,8 +5,8 @@ ghost use Rattle.std.specs.Prelude.{◌<◌, length, OnOk};
 use crate::buffers::Buffers;
 use crate::spacing::is_space;
 use json::{Reader, Scratch, Token};
-use jsonptr_json_search::scalar::is_scalar;
-use jsonptr_json_search::selector::Selector;
+use jsonptr_text_search::scalar::is_scalar;
+use jsonptr_text_search::selector::Selector;
 use jsonptr_value::{MAX_DEPTH, ReadError, if_json};
 use std::alloc::{AllocError, Global};
 

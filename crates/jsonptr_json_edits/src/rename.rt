@@ -1,7 +1,7 @@
 //! Reading an object beside the same object with one member under another key.
 ghost use Rattle.std.specs.Prelude.{◌≡◌, ◌<◌, length, OnOk, IsTrue, string_bytes};
 ghost use Rattle.serde_json.specs.Data.{Data, Members};
-ghost use Rattle.jsonptr_json_search.specs.Reading.{ReadsTokens, ReadsMembers};
+ghost use Rattle.jsonptr_text_search.specs.Reading.{ReadsTokens, ReadsMembers};
 ghost use Rattle.jsonptr_json_edits.specs.Editing.{RenamesMember, RenamesKey};
 ghost use Rattle.jsonptr_json_edits.specs.PrivateRenaming.{MayPass, IsKeyAfter};
 
@@ -10,7 +10,7 @@ use crate::decide::is_either;
 use crate::edit::Renaming;
 use crate::same::{Readers, same, same_key, same_token};
 use json::Token;
-use jsonptr_json_search::decide::is_text;
+use jsonptr_text_search::decide::is_text;
 
 /// Passes over the next value of both, an object. In the new one, one member has another key.
 ///

@@ -5,13 +5,13 @@ ghost use Rattle.json.specs.Lex.{tokens};
 ghost use Rattle.json.specs.Reads.{token_of};
 ghost use Rattle.serde_json.specs.Data.{Data, Items, Members};
 ghost use Rattle.serde_json.specs.Read.{read};
-ghost use Rattle.jsonptr_json_search.specs.Reading.{ReadsTokens, ReadsItems, ReadsMembers};
+ghost use Rattle.jsonptr_text_search.specs.Reading.{ReadsTokens, ReadsItems, ReadsMembers};
 ghost use Rattle.jsonptr_json_edits.specs.Alike.{AreAlike};
 
 use crate::check_error::CheckError;
 use crate::token::is_same;
 use json::{Invalid, Reader, Scratch, Token};
-use jsonptr_json_search::scalar::is_scalar;
+use jsonptr_text_search::scalar::is_scalar;
 use jsonptr_value::MAX_DEPTH;
 
 /// Two texts that are read side by side.

@@ -15,7 +15,7 @@ use Rattle.std.specs.declared.cmp.Ordering.TheVariants.{Less}
 use Rattle.serde_json.specs.declared.value.Value.{Value}
 use Rattle.jsonptr.specs.Text.{Text}
 use Rattle.jsonptr.specs.Node.{key, place, Path, NodeMap, sub}
-use Rattle.jsonptr_diff.specs.Diff.{keys}
+use Rattle.jsonptr_patch_diff.specs.Diff.{keys}
 use Rattle.jsonptr_merge.specs.Values.{map_in, IsBefore}
 use Rattle.jsonptr_merge.specs.PrivateObjects.{Object, object_map, member_in, HasKeysOfAll}
 use Rattle.jsonptr_merge.specs.Merge.{AreObjects, AllDiffer, IsConflict, HasNoConflict, IsConflictAt, AreInOrder, AreConflicts}

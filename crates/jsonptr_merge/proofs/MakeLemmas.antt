@@ -20,7 +20,7 @@ use Rattle.jsonptr.specs.Content.{Content, map_of}
 use Rattle.jsonptr.specs.Json.{nodes}
 use Rattle.jsonptr_tree.proofs.JsonLemmas.{null_is}
 use Rattle.jsonptr_merge.specs.MergePatch.{null_label, is_null, by_patch, patched}
-use Rattle.jsonptr_diff.specs.Diff.{keys}
+use Rattle.jsonptr_patch_diff.specs.Diff.{keys}
 use Rattle.jsonptr_merge.specs.Values.{map_in, IsBefore}
 use Rattle.jsonptr_merge.specs.PrivateObjects.{Object, object_map, side_map, member_in}
 use Rattle.jsonptr_merge.specs.PrivateMaking.{Removes, IsMade, MakesChanges, IsFirstBelow, IsFirstUnder, IsFirstOfMembers}

@@ -4,7 +4,7 @@ use mathlib.Core.Path.{fun_ext}
 use Rattle.jsonptr.specs.Text.{Text}
 use Rattle.jsonptr.specs.Node.{key, Path, Label, an_object, NodeMap, sub}
 use Rattle.jsonptr_merge.specs.MergePatch.{null_label, is_null, by_patch, patched}
-use Rattle.jsonptr_diff.specs.Diff.{keys}
+use Rattle.jsonptr_patch_diff.specs.Diff.{keys}
 use Rattle.jsonptr_merge.specs.Making.{LeadsToNewNull, IsNewNull}
 use Rattle.jsonptr_merge.proofs.PatchLaws.{at_object}
 

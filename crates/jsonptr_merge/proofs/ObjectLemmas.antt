@@ -22,7 +22,7 @@ use Rattle.jsonptr_tree.proofs.JsonLemmas.{content_of, object_is, ascends_part}
 use Rattle.jsonptr_tree.proofs.LevelLemmas.{get_member-by, members_by}
 use Rattle.jsonptr_patch.proofs.TestingLemmas.{below_middle}
 pub use Rattle.jsonptr_patch.proofs.TestingLemmas.{found_under}
-pub use Rattle.jsonptr_diff.proofs.MixedLemmas.{entry_found, entry_before}
+pub use Rattle.jsonptr_patch_diff.proofs.MixedLemmas.{entry_found, entry_before}
 use Rattle.jsonptr.specs.Json.{HasSortedKeys}
 use Rattle.jsonptr_merge.specs.Values.{map_in}
 use Rattle.jsonptr_merge.specs.PrivateObjects.{Object, object_map, member_in, SortedObject, HasKeysOf, HasKeysOfAll}

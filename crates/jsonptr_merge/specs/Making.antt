@@ -5,7 +5,7 @@ use Rattle.serde_json.specs.Read.{max_depth}
 use Rattle.jsonptr.specs.Text.{Text}
 use Rattle.jsonptr.specs.Json.{nodes}
 use Rattle.jsonptr.specs.Node.{an_object, NodeMap}
-use Rattle.jsonptr_diff.specs.Diff.{keys}
+use Rattle.jsonptr_patch_diff.specs.Diff.{keys}
 use Rattle.jsonptr_merge.specs.MergePatch.{null_label}
 use Rattle.jsonptr_merge.specs.Values.{IsBefore}
 use Rattle.jsonptr_merge.specs.declared.error.MergePatchError.{MergePatchError}

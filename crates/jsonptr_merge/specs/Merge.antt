@@ -2,7 +2,7 @@
 use Rattle.std.specs.Prelude.{◌≡◌, ◌≢◌, List, [], ◌∷◌, ◌++◌, All, Contains, Some, ⊤}
 use Rattle.jsonptr.specs.Text.{Text}
 use Rattle.jsonptr.specs.Node.{Step, Path, an_object, NodeMap, sub}
-use Rattle.jsonptr_diff.specs.Diff.{keys}
+use Rattle.jsonptr_patch_diff.specs.Diff.{keys}
 use Rattle.jsonptr_merge.specs.Values.{map_in, IsBefore}
 use Rattle.jsonptr_merge.specs.declared.conflict.Conflict.{Conflict}
 

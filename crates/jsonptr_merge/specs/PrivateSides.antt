@@ -2,7 +2,7 @@
 use Rattle.std.specs.Prelude.{◌≡◌, ◌⊎◌, ⊤, List, ◌++◌, [], ◌∷◌, All, Contains}
 use Rattle.jsonptr.specs.Text.{Text}
 use Rattle.jsonptr.specs.Node.{Path, NodeMap}
-use Rattle.jsonptr_diff.specs.Diff.{keys}
+use Rattle.jsonptr_patch_diff.specs.Diff.{keys}
 use Rattle.jsonptr_merge.specs.Values.{map_in}
 use Rattle.jsonptr_merge.specs.Merge.{AllDiffer, IsConflict, IsMerge, HasNoConflict, IsConflictAt, AreInOrder}
 use Rattle.jsonptr_merge.specs.PrivateObjects.{Object, side_map, SortedSide, SortedObject, member_in}

@@ -23,7 +23,7 @@ use std::alloc::{AllocError, Global};
 ///
 /// What is the same in both is not in the patch. There is no such patch exactly if `new` has a
 /// member `null` that `old` does not have, since `null` in a patch removes a member. In elements of
-/// arrays `null` does not matter. Numbers are the same as in [`are_same`](jsonptr_diff::are_same):
+/// arrays `null` does not matter. Numbers are the same as in [`are_same`](jsonptr_patch_diff::are_same):
 /// `1` and `1.0` differ.
 ///
 /// Compares each value once for each object around it. The stack is in proportion to the depth.

@@ -4,7 +4,7 @@ ghost use Rattle.jsonptr_merge.specs.Values.{map_in, SortedIn};
 ghost use Rattle.jsonptr_merge.specs.PrivateObjects.{side_map, SortedSide};
 ghost use Rattle.jsonptr_merge.specs.PrivateSides.{IsSettled, SortedSettled};
 
-use jsonptr_diff::are_same;
+use jsonptr_patch_diff::are_same;
 use jsonptr_value::copy;
 use serde_json::Value;
 use std::alloc::{AllocError, Global};

@@ -40,7 +40,7 @@ pub enum Merged {
 ///
 /// Conflicts are in the order of their paths: keys by their bytes. Which copy is first makes no
 /// difference except for the names in a conflict. Numbers are compared as
-/// [`are_same`](jsonptr_diff::are_same) does: `1` and `1.0` differ.
+/// [`are_same`](jsonptr_patch_diff::are_same) does: `1` and `1.0` differ.
 ///
 /// Compares each value with the others once for each object around it. The stack is in proportion
 /// to the depth.

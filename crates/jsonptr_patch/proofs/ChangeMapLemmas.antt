@@ -17,9 +17,9 @@ use Rattle.jsonptr_tree.proofs.ContentLemmas.{map_of-sub, content_at-push}
 use Rattle.jsonptr_tree.proofs.JsonLemmas.{null_is}
 use Rattle.jsonptr_tree.proofs.PutLemmas.{cases_same, put_below, same_by_step, put-step, put-other_step}
 use Rattle.jsonptr_tree.proofs.RemovingLemmas.{Deletes_whole, Deletes_child}
-use Rattle.jsonptr_journal.specs.Writing.{write_item, write_member, write_step, write_below, write_at, At}
-use Rattle.jsonptr_journal.specs.Children.{insert_item, without_item, put_member, without_member, KeysRise}
-use Rattle.jsonptr_journal.specs.Changes.{PutsMember, PutsElement, TakesChild, TakesAt, Writes}
+use Rattle.jsonptr_patch_journal.specs.Writing.{write_item, write_member, write_step, write_below, write_at, At}
+use Rattle.jsonptr_patch_journal.specs.Children.{insert_item, without_item, put_member, without_member, KeysRise}
+use Rattle.jsonptr_patch_journal.specs.Changes.{PutsMember, PutsElement, TakesChild, TakesAt, Writes}
 use Rattle.jsonptr_patch.specs.Inserting.{place_of_old, below_element, with_place}
 use Rattle.jsonptr_patch.specs.Adding.{MeansPlace, AddsUnder, AddsBelow}
 use Rattle.jsonptr_patch.specs.Operating.{Takes}

@@ -8,9 +8,9 @@ use Rattle.jsonptr.specs.Content.{Content, scalar, array, object, Items, no_item
 use Rattle.jsonptr_tree.proofs.ContentMapLemmas.{below_flip, above_more}
 use Rattle.jsonptr_tree.proofs.ContentOrderLemmas.{part_has_sorted_keys}
 use Rattle.jsonptr_tree.proofs.JsonLemmas.{null_is}
-use Rattle.jsonptr_journal.specs.Writing.{write_item, write_member, write_step, write_below, write_at, At}
-use Rattle.jsonptr_journal.specs.Children.{insert_item, without_item, put_member, without_member}
-use Rattle.jsonptr_journal.specs.Changes.{PutsMember, PutsElement, TakesChild, TakesAt, Writes}
+use Rattle.jsonptr_patch_journal.specs.Writing.{write_item, write_member, write_step, write_below, write_at, At}
+use Rattle.jsonptr_patch_journal.specs.Children.{insert_item, without_item, put_member, without_member}
+use Rattle.jsonptr_patch_journal.specs.Changes.{PutsMember, PutsElement, TakesChild, TakesAt, Writes}
 use Rattle.jsonptr_patch.proofs.ChangeMapLemmas.{child_at}
 
 -- written

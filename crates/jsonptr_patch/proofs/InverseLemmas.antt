@@ -20,9 +20,9 @@ use Rattle.jsonptr_tree.proofs.FollowingLemmas.{cases_some}
 use Rattle.jsonptr_tree.proofs.NodeLemmas.{sub-root, sub-sub, Names-here, Names-push, Names-pop, Names_one_path, IsTree-above}
 use Rattle.jsonptr_tree.proofs.PutLemmas.{cases_same, rest_after-append, rest_after-shorter, rest_after-other, put_at, put_none, put_other, put-sub, put-put, put_below, sub-put, Names-put, frame}
 use Rattle.jsonptr_tree.proofs.RemovingLemmas.{Deletes_child, Deletes_one, without_key-same, without_key-other}
-use Rattle.jsonptr_journal.specs.Location.{path_of}
-use Rattle.jsonptr_journal.specs.declared.location.Location.{Location}
-use Rattle.jsonptr_journal.specs.declared.addition.Target.TheVariants as target
+use Rattle.jsonptr_patch_journal.specs.Location.{path_of}
+use Rattle.jsonptr_patch_journal.specs.declared.location.Location.{Location}
+use Rattle.jsonptr_patch_journal.specs.declared.addition.Target.TheVariants as target
 use Rattle.jsonptr_patch.specs.Inserting.{with_place}
 use Rattle.jsonptr_patch.specs.Adding.{AddsUnder, Adds}
 use Rattle.jsonptr_patch.specs.Inverse.{HasObject, IsElementAt, TakesAddBack, IsReverse, HasNoReverse, TakesBack, TakesAllBackBy}

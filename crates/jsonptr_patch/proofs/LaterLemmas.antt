@@ -24,12 +24,12 @@ use Rattle.jsonptr_tree.proofs.ListedLemmas.{Contains-cons}
 use Rattle.jsonptr_tree.proofs.NodeLemmas.{Names-push, Names-pop, Names_one_path}
 use Rattle.jsonptr_tree.proofs.PutLemmas.{Names-put, put_none, put-put, put_below, sub-put, rest_after-other, cases_same}
 use Rattle.jsonptr_tree.proofs.RemovingLemmas.{Deletes_child, Deletes_one, without_key-same, without_key-other}
-use Rattle.jsonptr_journal.specs.Location.{path_of, contents_of}
-use Rattle.jsonptr_journal.specs.Journal.{Undone}
-use Rattle.jsonptr_journal.specs.Writing.{At}
-use Rattle.jsonptr_journal.specs.declared.journal.Journal.{Journal}
-use Rattle.jsonptr_journal.specs.Changes.{IsThere, ReplacesContent, TakesAt}
-use Rattle.jsonptr_journal.specs.declared.location.Location.{Location}
+use Rattle.jsonptr_patch_journal.specs.Location.{path_of, contents_of}
+use Rattle.jsonptr_patch_journal.specs.Journal.{Undone}
+use Rattle.jsonptr_patch_journal.specs.Writing.{At}
+use Rattle.jsonptr_patch_journal.specs.declared.journal.Journal.{Journal}
+use Rattle.jsonptr_patch_journal.specs.Changes.{IsThere, ReplacesContent, TakesAt}
+use Rattle.jsonptr_patch_journal.specs.declared.location.Location.{Location}
 use Rattle.jsonptr_patch.specs.Adding.{Adds}
 use Rattle.jsonptr_patch.specs.Apart.{Diverges, AllDiverge, pointers}
 use Rattle.jsonptr_patch.specs.Inverse.{HasObject}

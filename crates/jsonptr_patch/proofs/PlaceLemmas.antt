@@ -5,10 +5,10 @@ use Rattle.jsonptr.specs.Node.{Path, Label, an_object, an_array, Names}
 use Rattle.jsonptr.specs.Content.{Content, scalar, array, object, items_len, label_of, map_of, SortedContent}
 use Rattle.jsonptr_tree.proofs.ContentLemmas.{content_at-there}
 use Rattle.jsonptr_tree.proofs.NodeLemmas.{Names-here}
-use Rattle.jsonptr_journal.specs.Changes.{IsThere, IsObjectContent, HasAtLeast}
-use Rattle.jsonptr_journal.specs.Undoing.{CanAdd, AddsAt}
-use Rattle.jsonptr_journal.specs.declared.addition.Target.{Target}
-use Rattle.jsonptr_journal.specs.declared.addition.Target.TheVariants as target
+use Rattle.jsonptr_patch_journal.specs.Changes.{IsThere, IsObjectContent, HasAtLeast}
+use Rattle.jsonptr_patch_journal.specs.Undoing.{CanAdd, AddsAt}
+use Rattle.jsonptr_patch_journal.specs.declared.addition.Target.{Target}
+use Rattle.jsonptr_patch_journal.specs.declared.addition.Target.TheVariants as target
 use Rattle.jsonptr_patch.specs.Adding.{Adds, AddsBelow}
 use Rattle.jsonptr_patch.specs.PrivateAdding.{IsPlace}
 use Rattle.jsonptr_patch.proofs.ChangeMapLemmas.{adds_member, adds_element}

@@ -3,9 +3,9 @@ use Rattle.std.proofs.Common.{List}
 use Rattle.jsonptr.specs.Text.{Text}
 use Rattle.jsonptr.specs.Resolve.{PutsAt}
 use Rattle.jsonptr.specs.Content.{Content, map_of, SortedContent}
-use Rattle.jsonptr_journal.specs.Changes.{ReplacesContent, Writes}
-use Rattle.jsonptr_journal.specs.Leading.{AtNamed}
-use Rattle.jsonptr_journal.proofs.ThereLemmas.{at_weaker}
+use Rattle.jsonptr_patch_journal.specs.Changes.{ReplacesContent, Writes}
+use Rattle.jsonptr_patch_journal.specs.Leading.{AtNamed}
+use Rattle.jsonptr_patch_journal.proofs.ThereLemmas.{at_weaker}
 use Rattle.jsonptr_patch.proofs.ChangeMapLemmas.{puts_value}
 use Rattle.jsonptr_patch.proofs.ChangeOrderLemmas.{sorted_with_value}
 

@@ -3,9 +3,9 @@
 use Rattle.std.specs.Prelude.{◌≡◌, ℕ, List, [], ◌∷◌, ◌++◌, Some, string_bytes}
 use Rattle.jsonptr.specs.Text.{Text}
 use Rattle.jsonptr.specs.Node.{Path, Label, an_object, an_array, NodeMap, Names}
-use Rattle.jsonptr_journal.specs.Location.{path_of}
-use Rattle.jsonptr_journal.specs.declared.addition.Target.{Target}
-use Rattle.jsonptr_journal.specs.declared.addition.Target.TheVariants as target
+use Rattle.jsonptr_patch_journal.specs.Location.{path_of}
+use Rattle.jsonptr_patch_journal.specs.declared.addition.Target.{Target}
+use Rattle.jsonptr_patch_journal.specs.declared.addition.Target.TheVariants as target
 use Rattle.jsonptr_patch.specs.Adding.{MeansPlace}
 
 -- `HasParent n tokens w l x`: the last of `tokens` is `x`, and those before it evaluate to the path `w` of `n`, where a

@@ -4,12 +4,12 @@ use Rattle.serde_json.specs.declared.value.Value.{Null}
 use Rattle.jsonptr.specs.Content.{Content}
 use Rattle.jsonptr.specs.Text.{Text, HasNoTilde, text}
 use Rattle.jsonptr.specs.Node.{key, Path, an_object, NodeMap, Names}
-use Rattle.jsonptr_journal.specs.Location.{path_of, contents_of}
-use Rattle.jsonptr_journal.specs.Changes.{ReplacesContent}
-use Rattle.jsonptr_journal.specs.Leading.{AtNamed}
-use Rattle.jsonptr_journal.specs.Undoing.{IsRemoval}
-use Rattle.jsonptr_journal.specs.declared.location.Location.{Location}
-use Rattle.jsonptr_journal.specs.declared.removal.Taken.{Taken}
+use Rattle.jsonptr_patch_journal.specs.Location.{path_of, contents_of}
+use Rattle.jsonptr_patch_journal.specs.Changes.{ReplacesContent}
+use Rattle.jsonptr_patch_journal.specs.Leading.{AtNamed}
+use Rattle.jsonptr_patch_journal.specs.Undoing.{IsRemoval}
+use Rattle.jsonptr_patch_journal.specs.declared.location.Location.{Location}
+use Rattle.jsonptr_patch_journal.specs.declared.removal.Taken.{Taken}
 use Rattle.jsonptr_patch.specs.Apart.{Diverges, AllDiverge}
 use Rattle.jsonptr_patch.specs.Inverse.{HasObject}
 use Rattle.jsonptr_patch.specs.Operating.{Takes, AppliesBy, RefusesOperationBy}

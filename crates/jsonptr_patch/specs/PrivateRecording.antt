@@ -1,9 +1,9 @@
 -- Journals of the changes of a document. Used only by private contracts; no public contract depends on this file.
 use Rattle.serde_json.specs.declared.value.Value.{Value}
 use Rattle.jsonptr.specs.Content.{Content}
-use Rattle.jsonptr_journal.specs.Location.{contents_of}
-use Rattle.jsonptr_journal.specs.Journal.{Undone}
-use Rattle.jsonptr_journal.specs.declared.journal.Journal.{Journal}
+use Rattle.jsonptr_patch_journal.specs.Location.{contents_of}
+use Rattle.jsonptr_patch_journal.specs.Journal.{Undone}
+use Rattle.jsonptr_patch_journal.specs.declared.journal.Journal.{Journal}
 
 -- `CanUndo j d`: undoing the journal `j` turns the document `d` into some content
 abbrev pub CanUndo : Journal → Value → Type 0

@@ -13,7 +13,7 @@ use crate::failed_operation::{FailedOperation, PatchPointer};
 use crate::target::no_target;
 use crate::turn::Turn;
 use jsonptr::{Fault, Pointer};
-use jsonptr_journal::journal::Journal;
+use jsonptr_patch_journal::journal::Journal;
 use serde_json::Value;
 
 /// Adds a copy of the value at `from` at `path`, for the operation of this turn.

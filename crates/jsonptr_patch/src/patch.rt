@@ -23,7 +23,7 @@ use crate::replace::{replace, replace_last};
 use crate::test::test;
 use crate::turn::{Run, Turn};
 use jsonptr::Fault;
-use jsonptr_journal::journal::Journal;
+use jsonptr_patch_journal::journal::Journal;
 use serde_json::Value;
 use std::alloc::Global;
 

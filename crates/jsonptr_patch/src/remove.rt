@@ -15,8 +15,8 @@ use crate::failed_operation::{FailedOperation, PatchPointer};
 use crate::target::{no_target, target};
 use crate::turn::Turn;
 use jsonptr::{Fault, Pointer};
-use jsonptr_journal::journal::Journal;
-use jsonptr_journal::locate::resolve_error;
+use jsonptr_patch_journal::journal::Journal;
+use jsonptr_patch_journal::locate::resolve_error;
 use serde_json::Value;
 
 /// Removes the value that the pointer resolves to, for the operation of this turn. Removing the

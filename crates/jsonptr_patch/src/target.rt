@@ -5,7 +5,7 @@ ghost use Rattle.jsonptr.specs.Fault.{IfRefused};
 ghost use Rattle.jsonptr.specs.Json.{nodes};
 ghost use Rattle.jsonptr.specs.Node.{Names};
 ghost use Rattle.jsonptr.specs.Pointer.{tokens};
-ghost use Rattle.jsonptr_journal.specs.Location.{path_of};
+ghost use Rattle.jsonptr_patch_journal.specs.Location.{path_of};
 ghost use Rattle.jsonptr_patch.specs.Operating.{RefusesTarget};
 ghost use Rattle.jsonptr_patch.specs.Failing.{fault_at};
 
@@ -13,8 +13,8 @@ use crate::failed_operation::{FailedOperation, PatchPointer};
 use crate::operation::PatchError;
 use crate::turn::Turn;
 use jsonptr::{Fault, Pointer, resolve};
-use jsonptr_journal::locate::locate;
-use jsonptr_journal::location::Location;
+use jsonptr_patch_journal::locate::locate;
+use jsonptr_patch_journal::location::Location;
 use serde_json::Value;
 
 /// Converts the fault of this pointer, which does not resolve, to that of the operation with this number.

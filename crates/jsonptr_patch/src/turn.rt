@@ -1,11 +1,11 @@
 //! What the operations of a patch are applied with, and what they leave.
 ghost use Rattle.std.specs.Prelude.{◌≡◌, []};
 ghost use Rattle.jsonptr.specs.Content.{Content};
-ghost use Rattle.jsonptr_journal.specs.Journal.{Undone};
+ghost use Rattle.jsonptr_patch_journal.specs.Journal.{Undone};
 
 use crate::comparison::Comparison;
 use crate::later::Later;
-use jsonptr_journal::journal::Journal;
+use jsonptr_patch_journal::journal::Journal;
 use std::alloc::Global;
 
 /// What an operation is applied with.

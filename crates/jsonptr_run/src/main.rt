@@ -1,9 +1,9 @@
 //! The program `jsonptr_run`: reads a pointer and a JSON document, and prints one line.
 #![tactic(auto)]
 
-use jsonptr_command::arguments::words_after_name;
-use jsonptr_command::fault::{RunFault, exit_code};
-use jsonptr_command::run::run_program_into;
+use jsonptr_run_command::arguments::words_after_name;
+use jsonptr_run_command::fault::{RunFault, exit_code};
+use jsonptr_run_command::run::run_program_into;
 use serde_json::Value;
 use std::alloc::AllocError;
 use std::io::ErrorKind;

@@ -14,14 +14,14 @@ use Rattle.jsonptr_value.specs.declared.from_text.ReadError.{ReadError}
 use Rattle.jsonptr_value.specs.declared.from_text.ReadError.TheVariants as unread
 use Rattle.jsonptr_text_value.specs.Raw.{or_null, value_of_raw}
 use Rattle.jsonptr_text_value.specs.declared.raw_value.RawValue.{RawValue}
-use Rattle.jsonptr_edit_in_text.specs.Bytes.{KeepsBytes}
-use Rattle.jsonptr_edit_in_text.specs.EditInText.{IsAssignError}
-use Rattle.jsonptr_edit_in_text.specs.PatchInText.{IsPatchError}
-use Rattle.jsonptr_edit_in_text.specs.Renaming.{IsRenameError}
-use Rattle.jsonptr_edit_in_text.specs.declared.edited.Edited.{Edited as Made}
-use Rattle.jsonptr_edit_in_text.specs.declared.edited.EditError.{EditError as KindError}
-use Rattle.jsonptr_edit_in_text.specs.declared.edited.EditError.TheVariants as kind
-use Rattle.jsonptr_edit_in_text.specs.declared.rename.RenameError.{RenameError}
+use Rattle.jsonptr_text_step.specs.Bytes.{KeepsBytes}
+use Rattle.jsonptr_text_step.specs.EditInText.{IsAssignError}
+use Rattle.jsonptr_text_step.specs.PatchInText.{IsPatchError}
+use Rattle.jsonptr_text_step.specs.Renaming.{IsRenameError}
+use Rattle.jsonptr_text_step.specs.declared.edited.Edited.{Edited as Made}
+use Rattle.jsonptr_text_step.specs.declared.edited.EditError.{EditError as KindError}
+use Rattle.jsonptr_text_step.specs.declared.edited.EditError.TheVariants as kind
+use Rattle.jsonptr_text_step.specs.declared.rename.RenameError.{RenameError}
 use Rattle.jsonptr_text_edit.specs.Edited.{IfInPlace}
 use Rattle.jsonptr_text_edit.specs.Edits.{EditsText}
 use Rattle.jsonptr_text_edit.specs.Errors.{FailsToAssign, FailsToDelete, FailsToRename, FailsToPatch, IsEditError}

@@ -27,12 +27,12 @@ use Rattle.jsonptr_patch.specs.declared.operation.Operation.TheVariants.{Move}
 use Rattle.jsonptr_text_value.specs.Operations.{operations_in}
 use Rattle.jsonptr_text_value.specs.Raw.{value_of_raw}
 use Rattle.jsonptr_text_value.specs.declared.raw_value.RawValue.{RawValue}
-use Rattle.jsonptr_edit_in_text.proofs.RenameErrorLemmas.{member_there}
-use Rattle.jsonptr_edit_in_text.specs.EditInText.{AssignsInText, DeletesInText}
-use Rattle.jsonptr_edit_in_text.specs.PatchInText.{PatchesInText}
-use Rattle.jsonptr_edit_in_text.specs.Renaming.{IsMember, Renames, RenamesInText, RefusesRename}
-use Rattle.jsonptr_edit_in_text.specs.declared.rename.RenameError.{RenameError}
-use Rattle.jsonptr_edit_in_text.specs.declared.rename.RenameError.TheVariants as rename
+use Rattle.jsonptr_text_step.proofs.RenameErrorLemmas.{member_there}
+use Rattle.jsonptr_text_step.specs.EditInText.{AssignsInText, DeletesInText}
+use Rattle.jsonptr_text_step.specs.PatchInText.{PatchesInText}
+use Rattle.jsonptr_text_step.specs.Renaming.{IsMember, Renames, RenamesInText, RefusesRename}
+use Rattle.jsonptr_text_step.specs.declared.rename.RenameError.{RenameError}
+use Rattle.jsonptr_text_step.specs.declared.rename.RenameError.TheVariants as rename
 use Rattle.jsonptr_text_edit.specs.Edits.{EditsText}
 use Rattle.jsonptr_text_edit.specs.Errors.{FailsToAssign, FailsToDelete, FailsToRename, FailsToPatch, IsEditError}
 use Rattle.jsonptr_text_edit.specs.Outcomes.{EditHasSortedKeys, IsMemory}

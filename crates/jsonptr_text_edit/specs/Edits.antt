@@ -2,12 +2,12 @@
 use Rattle.jsonptr.specs.Json.{nodes}
 use Rattle.jsonptr.specs.Pointer.{tokens}
 use Rattle.jsonptr.specs.Text.{Text}
-use Rattle.jsonptr_edit_in_text.specs.Bytes.{DeletesBytes}
-use Rattle.jsonptr_edit_in_text.specs.EditInText.{AssignsInText, DeletesInText}
-use Rattle.jsonptr_edit_in_text.specs.Giving.{AssignsGiven}
-use Rattle.jsonptr_edit_in_text.specs.PatchInText.{PatchesInText}
-use Rattle.jsonptr_edit_in_text.specs.RawPatching.{RawPatchBytes}
-use Rattle.jsonptr_edit_in_text.specs.Renaming.{RenamesInText, RenamesBytes}
+use Rattle.jsonptr_text_step.specs.Bytes.{DeletesBytes}
+use Rattle.jsonptr_text_step.specs.EditInText.{AssignsInText, DeletesInText}
+use Rattle.jsonptr_text_step.specs.Giving.{AssignsGiven}
+use Rattle.jsonptr_text_step.specs.PatchInText.{PatchesInText}
+use Rattle.jsonptr_text_step.specs.RawPatching.{RawPatchBytes}
+use Rattle.jsonptr_text_step.specs.Renaming.{RenamesInText, RenamesBytes}
 use Rattle.jsonptr_text_value.specs.Operations.{operations_in}
 use Rattle.jsonptr_text_value.specs.Raw.{value_of_raw}
 use Rattle.jsonptr_text_edit.specs.declared.edit.Edit.{Edit}

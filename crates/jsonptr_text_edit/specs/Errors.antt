@@ -12,8 +12,8 @@ use Rattle.jsonptr_patch.specs.Order.{OperationHasSortedKeys}
 use Rattle.jsonptr_patch.specs.Patching.{PatchesBy, FailsBy}
 use Rattle.jsonptr_patch.specs.declared.comparison.Comparison.TheVariants.{Numeric}
 use Rattle.jsonptr_patch.specs.declared.operation.Operation.{Operation}
-use Rattle.jsonptr_edit_in_text.specs.EditInText.{IsTooDeep, LacksInText}
-use Rattle.jsonptr_edit_in_text.specs.Renaming.{RefusesRename}
+use Rattle.jsonptr_text_step.specs.EditInText.{IsTooDeep, LacksInText}
+use Rattle.jsonptr_text_step.specs.Renaming.{RefusesRename}
 use Rattle.jsonptr_text_value.specs.Operations.{operations_in}
 use Rattle.jsonptr_text_value.specs.Raw.{value_of_raw}
 use Rattle.jsonptr_text_value.specs.declared.raw_value.RawValue.{RawValue}

@@ -1,6 +1,6 @@
 //! Applying a patch to the document of a text.
 ghost use Rattle.std.specs.Prelude.{◌≡◌, IfOk, IfErr, string_bytes};
-ghost use Rattle.jsonptr_edit_in_text.specs.PatchInText.{PatchesInText};
+ghost use Rattle.jsonptr_text_step.specs.PatchInText.{PatchesInText};
 ghost use Rattle.jsonptr_patch_document.specs.Same.{AreSameOperations};
 ghost use Rattle.jsonptr_text_value.specs.Operations.{operations_in};
 ghost use Rattle.jsonptr_text_edit.specs.Errors.{FailsToPatch};
@@ -8,10 +8,10 @@ ghost use Rattle.jsonptr_text_edit.specs.PrivateErrors.{of_patch_error};
 
 use crate::edit_error::EditError;
 use jsonptr::Fault;
-use jsonptr_edit_in_text as in_text;
 use jsonptr_patch::{FailedOperation, Operation};
 use jsonptr_patch_document::laws::patch_document_law;
 use jsonptr_patch_document::read_patch;
+use jsonptr_text_step as in_text;
 use jsonptr_text_value::PatchText;
 use std::alloc::{AllocError, Global};
 

@@ -3,8 +3,8 @@ ghost use Rattle.std.specs.Prelude.{◌≡◌};
 ghost use Rattle.jsonptr_text_edit.specs.declared.edit_error.EditError.TheVariants.{Memory};
 
 use jsonptr::assign;
-use jsonptr_edit_in_text::RenameError;
 use jsonptr_patch::FailedOperation;
+use jsonptr_text_step::RenameError;
 use jsonptr_value::MAX_DEPTH;
 use std::alloc::AllocError;
 use thiserror::Error;

@@ -47,9 +47,9 @@ mod text;
 pub use edit::Edit;
 pub use edit_error::EditError;
 pub use edited::Edited;
-pub use jsonptr_edit_in_text::{
+pub use jsonptr_json_edits::buffers::Buffers;
+pub use jsonptr_text_step::{
     IndentError, LocateError, Located, PointerAt, RenameError, indent_text, locate, pointer_at,
 };
-pub use jsonptr_json_edits::buffers::Buffers;
 pub use jsonptr_text_value::{PatchText, RawOperation, RawValue};
 pub use text::edit_text;

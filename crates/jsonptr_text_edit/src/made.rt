@@ -2,12 +2,12 @@
 ghost use Rattle.std.specs.Prelude.{◌≡◌, IfOk, IfErr};
 ghost use Rattle.jsonptr.specs.Pointer.{tokens};
 ghost use Rattle.jsonptr.specs.Json.{nodes};
-ghost use Rattle.jsonptr_edit_in_text.specs.Bytes.{KeepsBytes, DeletesBytes};
-ghost use Rattle.jsonptr_edit_in_text.specs.EditInText.{edited_text, AssignsInText, DeletesInText};
-ghost use Rattle.jsonptr_edit_in_text.specs.Giving.{AssignsGiven};
-ghost use Rattle.jsonptr_edit_in_text.specs.PatchInText.{PatchesInText};
-ghost use Rattle.jsonptr_edit_in_text.specs.RawPatching.{RawPatchBytes};
-ghost use Rattle.jsonptr_edit_in_text.specs.Renaming.{RenamesInText, RenamesBytes};
+ghost use Rattle.jsonptr_text_step.specs.Bytes.{KeepsBytes, DeletesBytes};
+ghost use Rattle.jsonptr_text_step.specs.EditInText.{edited_text, AssignsInText, DeletesInText};
+ghost use Rattle.jsonptr_text_step.specs.Giving.{AssignsGiven};
+ghost use Rattle.jsonptr_text_step.specs.PatchInText.{PatchesInText};
+ghost use Rattle.jsonptr_text_step.specs.RawPatching.{RawPatchBytes};
+ghost use Rattle.jsonptr_text_step.specs.Renaming.{RenamesInText, RenamesBytes};
 ghost use Rattle.jsonptr_text_value.specs.Operations.{operations_in};
 ghost use Rattle.jsonptr_text_value.specs.Raw.{value_of_raw};
 ghost use Rattle.jsonptr_text_edit.specs.Edits.{EditsText, EditBytes};
@@ -18,11 +18,11 @@ use crate::by_document::apply_and_print;
 use crate::edit::Edit;
 use crate::edit_error::EditError;
 use jsonptr::{Pointer, assign};
-use jsonptr_edit_in_text as in_text;
-use jsonptr_edit_in_text::{
+use jsonptr_json_edits::buffers::Buffers;
+use jsonptr_text_step as in_text;
+use jsonptr_text_step::{
     RenameError, apply_in_text, assign_in_text, delete_in_text, rename_in_text,
 };
-use jsonptr_json_edits::buffers::Buffers;
 use jsonptr_text_value::{PatchText, RawValue};
 use jsonptr_value::ReadError;
 

@@ -2,14 +2,14 @@
 ghost use Rattle.std.specs.Prelude.{◌≡◌, Some, IfOk, string_bytes};
 ghost use Rattle.serde_json.specs.Data.{Data};
 ghost use Rattle.serde_json.specs.Read.{read};
-ghost use Rattle.jsonptr_edit_in_text.specs.EditInText.{edited_text};
-ghost use Rattle.jsonptr_edit_in_text.specs.OneLine.{StaysOneLine};
+ghost use Rattle.jsonptr_text_step.specs.EditInText.{edited_text};
+ghost use Rattle.jsonptr_text_step.specs.OneLine.{StaysOneLine};
 ghost use Rattle.jsonptr_text_edit.specs.Edited.{text_of, IfInPlace};
 ghost use Rattle.jsonptr_text_edit.specs.PrivateKept.{IsMadeAs};
 
 use crate::edited::Edited;
-use jsonptr_edit_in_text as in_text;
-use jsonptr_edit_in_text::stays_one_line;
+use jsonptr_text_step as in_text;
+use jsonptr_text_step::stays_one_line;
 use jsonptr_value::ReadError;
 use std::alloc::{AllocError, Global};
 

@@ -1,6 +1,6 @@
 //! Editing a text.
 ghost use Rattle.std.specs.Prelude.{IfOk, IfErr};
-ghost use Rattle.jsonptr_edit_in_text.specs.OneLine.{StaysOneLine};
+ghost use Rattle.jsonptr_text_step.specs.OneLine.{StaysOneLine};
 ghost use Rattle.jsonptr_text_edit.specs.Edited.{text_of, IfInPlace};
 ghost use Rattle.jsonptr_text_edit.specs.Edits.{EditsText, EditBytes};
 ghost use Rattle.jsonptr_text_edit.specs.Errors.{IsEditError};

@@ -2,7 +2,7 @@
 use crate::out::Out;
 use crate::words::Words;
 use jsonptr::{Fault, Pointer};
-use jsonptr_in_text::{
+use jsonptr_text_resolve::{
     InTextError, Scratch, exists_in_text, exists_in_text_with, resolve_in_slice, resolve_in_text,
     resolve_in_text_with,
 };

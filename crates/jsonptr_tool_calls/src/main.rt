@@ -46,8 +46,8 @@ mod toml_text;
 mod undos;
 mod words;
 
-use jsonptr_in_text::Scratch;
 use jsonptr_text_edit::Buffers;
+use jsonptr_text_resolve::Scratch;
 use out::Out;
 use std::env;
 use std::io::{self, BufRead, BufReader};

@@ -1,7 +1,7 @@
 //! Runs of the program `jsonptr_run`, also on words too long for the arguments of a process.
 use crate::out::Out;
 use crate::words::Words;
-use jsonptr_command::run::run_program;
+use jsonptr_run_command::run::run_program;
 use std::alloc::{AllocError, Global};
 use std::str;
 

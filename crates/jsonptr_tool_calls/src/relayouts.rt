@@ -1,7 +1,7 @@
 //! Documents in the layout of an older text.
 use crate::out::Out;
 use crate::words::Words;
-use jsonptr_relayout::{Buffers, Relaid, relayout_text};
+use jsonptr_text_relayout::{Buffers, Relaid, relayout_text};
 
 /// Lays a document out, and writes the kind of the result and the text.
 pub fn request(out: &mut Out<'_>, buffers: &mut Buffers, mut words: Words<'_>) {

@@ -3,7 +3,7 @@ use crate::out::Out;
 use crate::text_edits::Request;
 use crate::words::Words;
 use jsonptr::Pointer;
-use jsonptr_edit_in_toml::{Edited, TomlEdit, TomlEditError, edit_toml};
+use jsonptr_toml_edit::{Edited, TomlEdit, TomlEditError, edit_toml};
 use toml::Value;
 
 /// Runs a case of a call: the text, the pointer and the value. Writes the text before and after it.

@@ -3,9 +3,9 @@ use Rattle.std.proofs.Common.{◌≡◌, List, Option, Some, None, IfSome, Match
 use Rattle.std.specs.declared.alloc.Global.{Global}
 use Rattle.toml.specs.Data.{Data}
 use Rattle.jsonptr.specs.Text.{Text}
-use Rattle.jsonptr_in_toml.specs.InToml.{LacksInToml}
-use Rattle.jsonptr_edit_in_toml.specs.Bytes.{AssignsTomlBytes, DeletesTomlBytes}
-use Rattle.jsonptr_edit_in_toml.specs.EditInToml.{AssignsInToml, DeletesInToml}
+use Rattle.jsonptr_toml.specs.InToml.{LacksInToml}
+use Rattle.jsonptr_toml_edit.specs.Bytes.{AssignsTomlBytes, DeletesTomlBytes}
+use Rattle.jsonptr_toml_edit.specs.EditInToml.{AssignsInToml, DeletesInToml}
 use Rattle.jsonptr_uses.specs.EditsInToml.{AssignsAndDeletes, AssignsAndLacks}
 use Rattle.jsonptr_uses.specs.declared.edits_in_toml.TwoEditsError.{TwoEditsError}
 

@@ -2,9 +2,9 @@
 use Rattle.std.proofs.Common.{◌≡◌, false, List, Option, Some, None, MatchOption, String, IfSome, All, string_bytes, subst}
 use Rattle.std.specs.declared.alloc.Global.{Global}
 use Rattle.jsonptr.specs.Text.{Text}
-use Rattle.jsonptr_edit_in_text.specs.PatchInText.{PatchesInText}
+use Rattle.jsonptr_text_step.specs.PatchInText.{PatchesInText}
 use Rattle.jsonptr_text_value.specs.Operations.{operations_in, IsGivenIn}
-use Rattle.jsonptr_edit_in_text.specs.RawPatching.{RawPatchBytes}
+use Rattle.jsonptr_text_step.specs.RawPatching.{RawPatchBytes}
 use Rattle.jsonptr_text_value.specs.declared.raw_operation.RawOperation.{RawOperation}
 use Rattle.jsonptr_text_edit.specs.Edited.{text_of, is_in_place, IfInPlace}
 use Rattle.jsonptr_text_edit.specs.declared.edited.Edited.{Edited}

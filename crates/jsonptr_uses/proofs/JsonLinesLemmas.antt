@@ -11,8 +11,8 @@ use Rattle.jsonptr_text_value.specs.declared.raw_value.RawValue.{RawValue}
 use Rattle.jsonptr_json_edits.specs.Spacing.{IsBlank}
 use Rattle.jsonptr_io.specs.Lines.{AreLines}
 use Rattle.jsonptr_io.specs.Streams.{ForInput}
-use Rattle.jsonptr_paths.specs.declared.listing.Listed.TheVariants.{AllNodes}
-use Rattle.jsonptr_paths.specs.declared.build.LineError.{LineError}
+use Rattle.jsonptr_text_paths.specs.declared.listing.Listed.TheVariants.{AllNodes}
+use Rattle.jsonptr_text_paths.specs.declared.build.LineError.{LineError}
 use Rattle.jptr_tasks.specs.Layouts.{ShowsInLayout, ReadsBack}
 use Rattle.jptr_tasks.specs.LineResults.{LineGives, LinesGive, IsReport}
 use Rattle.jptr_tasks.specs.Paths.{ListsText, BuildsText, FailsToBuild, PutsText, StopsText}

@@ -9,9 +9,9 @@ use Rattle.jsonptr.specs.Types.Index.{Index}
 use Rattle.jsonptr.specs.Types.Index.TheVariants.{Num}
 use Rattle.jsonptr.specs.Types.ParseIndexError.{ParseIndexError}
 use Rattle.jsonptr.proofs.Calling.{Names_one_path, FindsValue-Finds, Reads_one}
-use Rattle.jsonptr_paths.specs.PrivateWalking.{token_of, tokens_to}
+use Rattle.jsonptr_text_paths.specs.PrivateWalking.{token_of, tokens_to}
 use Rattle.jsonptr_uses.specs.Editing.{NamesArray, IsNext, LacksNext}
-use Rattle.jsonptr_paths.proofs.WalkingLemmas.{tokens_are, named_by_steps}
+use Rattle.jsonptr_text_paths.proofs.WalkingLemmas.{tokens_are, named_by_steps}
 
 -- the parts of a list around its last element
 last_parts : (a b : List Text) (x y : Text) → a ++ x ∷ [] ≡ b ++ y ∷ [] → (a ≡ b) × (x ≡ y)

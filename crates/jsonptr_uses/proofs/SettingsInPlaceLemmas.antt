@@ -4,7 +4,7 @@ use Rattle.std.proofs.lemmas.List.{drop_more, take_more}
 use Rattle.std.specs.Option.{unwrap_or}
 use Rattle.std.specs.declared.alloc.Global.{Global}
 use Rattle.jsonptr.specs.Text.{Text}
-use Rattle.jsonptr_edit_in_text.specs.OneLine.{StaysOneLine}
+use Rattle.jsonptr_text_step.specs.OneLine.{StaysOneLine}
 use Rattle.jsonptr_text_edit.specs.Edited.{text_of, is_in_place, IfInPlace}
 use Rattle.jsonptr_text_edit.specs.Edits.{EditsText, EditBytes}
 use Rattle.jsonptr_text_edit.specs.Errors.{IsEditError}

@@ -16,8 +16,8 @@ use Rattle.jsonptr.specs.Assigning.{long_enough, with_room, Assigns}
 use Rattle.jsonptr.specs.Delete.{NamesNothing}
 use Rattle.jsonptr.proofs.Calling.{Names-root, Names-here, Names_one_list, stops-lacks, Assigns-frame}
 use Rattle.jsonptr_uses.specs.Settings.{IsHighest, IsAnswer, IsApart, IsLocationOf, IsSetAt}
-use Rattle.jsonptr_paths.specs.PrivateWalking.{token_of, tokens_to}
-use Rattle.jsonptr_paths.proofs.WalkingLemmas.{tokens_are, named_by_steps}
+use Rattle.jsonptr_text_paths.specs.PrivateWalking.{token_of, tokens_to}
+use Rattle.jsonptr_text_paths.proofs.WalkingLemmas.{tokens_are, named_by_steps}
 
 -- layers
 

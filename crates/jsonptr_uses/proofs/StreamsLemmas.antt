@@ -5,10 +5,10 @@ use Rattle.jsonptr.specs.Json.{nodes}
 use Rattle.jsonptr.specs.Pointer.{tokens}
 use Rattle.jsonptr.specs.Text.{Text}
 use Rattle.jsonptr.specs.declared.pointer.Pointer.{Pointer}
-use Rattle.jsonptr_edit_in_text.specs.Bytes.{AssignsBytes}
+use Rattle.jsonptr_text_step.specs.Bytes.{AssignsBytes}
 use Rattle.jsonptr_text_value.specs.Raw.{value_of_raw}
-use Rattle.jsonptr_edit_in_text.specs.Giving.{AssignsGiven}
-use Rattle.jsonptr_edit_in_text.specs.EditInText.{AssignsInText}
+use Rattle.jsonptr_text_step.specs.Giving.{AssignsGiven}
+use Rattle.jsonptr_text_step.specs.EditInText.{AssignsInText}
 use Rattle.jsonptr_text_value.specs.declared.raw_value.RawValue.{RawValue}
 use Rattle.jsonptr_io.specs.Streams.{ForInput}
 use Rattle.jptr_tasks.specs.Documents.{Prints, PutsDocument, EndsInBreak}

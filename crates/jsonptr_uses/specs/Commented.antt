@@ -3,7 +3,7 @@ use Rattle.std.specs.Prelude.{◌≡◌, ℕ, List, ⊤}
 use Rattle.serde_json.specs.Data.{Data}
 use Rattle.jsonptr.specs.Text.{Text}
 use Rattle.jsonptr_comments.specs.Comments.{IsWithoutComments, IsUnterminated}
-use Rattle.jsonptr_in_text.specs.InText.{FindsInText, IsInTextError}
+use Rattle.jsonptr_text_resolve.specs.InText.{FindsInText, IsInTextError}
 use Rattle.jsonptr_patch.specs.declared.failed_operation.FailedOperation.{FailedOperation}
 use Rattle.jsonptr_patch.specs.declared.operation.PatchError.TheVariants.{TestFailed}
 use Rattle.jsonptr_text_edit.specs.Errors.{IsEditError}

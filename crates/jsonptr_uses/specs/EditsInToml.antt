@@ -2,9 +2,9 @@
 use Rattle.std.specs.Prelude.{List}
 use Rattle.toml.specs.Data.{Data}
 use Rattle.jsonptr.specs.Text.{Text}
-use Rattle.jsonptr_in_toml.specs.InToml.{LacksInToml}
-use Rattle.jsonptr_edit_in_toml.specs.Bytes.{AssignsTomlBytes, DeletesTomlBytes}
-use Rattle.jsonptr_edit_in_toml.specs.EditInToml.{AssignsInToml, DeletesInToml}
+use Rattle.jsonptr_toml.specs.InToml.{LacksInToml}
+use Rattle.jsonptr_toml_edit.specs.Bytes.{AssignsTomlBytes, DeletesTomlBytes}
+use Rattle.jsonptr_toml_edit.specs.EditInToml.{AssignsInToml, DeletesInToml}
 
 -- `AssignsAndDeletes text ts v us new`: `new` comes from `text` by two edits in place: `v` is assigned at the tokens `ts`, and
 -- then the value is deleted that the tokens `us` identify. Each changes one piece of the text

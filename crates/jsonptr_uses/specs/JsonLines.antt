@@ -3,9 +3,9 @@ use Rattle.std.specs.Prelude.{◌≡◌, ◌⊎◌, List, [], ◌∷◌, ◌++�
 use Rattle.serde_json.specs.Data.{Data}
 use Rattle.jsonptr.specs.Json.{nodes}
 use Rattle.jsonptr.specs.Text.{Text}
-use Rattle.jsonptr_edit_in_text.specs.Bytes.{AssignsBytes}
+use Rattle.jsonptr_text_step.specs.Bytes.{AssignsBytes}
 use Rattle.jsonptr_json_edits.specs.Spacing.{IsBlank}
-use Rattle.jsonptr_edit_in_text.specs.EditInText.{AssignsInText}
+use Rattle.jsonptr_text_step.specs.EditInText.{AssignsInText}
 
 -- `TagsEach ts v ls out`: `out` has a line for each of the lines `ls` that is not white space: the same document with `v`
 -- assigned at the tokens, of which only the bytes of the assignment are new

@@ -1,7 +1,7 @@
 -- Several edits of a text, each in place or left out.
 use Rattle.std.specs.Prelude.{◌≡◌, Bool, true, false, List, [], ◌∷◌, ◌++◌}
 use Rattle.jsonptr.specs.Text.{Text}
-use Rattle.jsonptr_edit_in_text.specs.OneLine.{StaysOneLine}
+use Rattle.jsonptr_text_step.specs.OneLine.{StaysOneLine}
 use Rattle.jsonptr_text_edit.specs.Edits.{EditsText, EditBytes}
 use Rattle.jsonptr_text_edit.specs.Errors.{IsEditError}
 use Rattle.jsonptr_text_edit.specs.declared.edit.Edit.{Edit}

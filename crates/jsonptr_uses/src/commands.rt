@@ -3,7 +3,7 @@ ghost use Rattle.std.specs.Prelude.{IfOk, string_bytes};
 ghost use Rattle.serde_json.specs.Data.{string};
 ghost use Rattle.jsonptr.specs.Json.{nodes};
 ghost use Rattle.jsonptr.specs.Pointer.{tokens};
-ghost use Rattle.jsonptr_edit_in_text.specs.EditInText.{AssignsInText};
+ghost use Rattle.jsonptr_text_step.specs.EditInText.{AssignsInText};
 
 use jptr_tasks::layout::Layout;
 use jptr_tasks::result::result_in_text;

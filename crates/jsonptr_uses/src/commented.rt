@@ -2,7 +2,7 @@
 ghost use Rattle.std.specs.Prelude.{IfOk, IfErr, IfSome, MatchOption};
 ghost use Rattle.serde_json.specs.View.{view};
 ghost use Rattle.jsonptr.specs.Pointer.{tokens};
-ghost use Rattle.jsonptr_edit_with_comments.specs.EditWithComments.{Becomes};
+ghost use Rattle.jsonptr_comments_step.specs.EditWithComments.{Becomes};
 ghost use Rattle.jsonptr_text_edit.specs.Edited.{text_of, IfInPlace};
 ghost use Rattle.jsonptr_text_edit.specs.Edits.{EditsText};
 ghost use Rattle.jsonptr_comments_edit.specs.Commented.{CommentedBytes, IsCommentedError};
@@ -11,8 +11,8 @@ ghost use Rattle.jsonptr_uses.specs.Commented.{HasSetting, IsSettingError, Fails
 use jsonptr::{Fault, Pointer};
 use jsonptr_comments::{CommentError, without_comments};
 use jsonptr_comments_edit::{Buffers, CommentedText, Edit, EditError, Edited, edit_commented};
-use jsonptr_in_text::{InTextError, resolve_in_text};
 use jsonptr_patch::{FailedOperation, PatchError};
+use jsonptr_text_resolve::{InTextError, resolve_in_text};
 use serde_json::Value;
 use std::alloc::{AllocError, Global};
 

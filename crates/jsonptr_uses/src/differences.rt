@@ -5,9 +5,9 @@ ghost use Rattle.jsonptr.specs.Fault.{IsRefused};
 ghost use Rattle.jsonptr.specs.Json.{nodes, HasSortedKeys};
 
 use jsonptr::Fault;
-use jsonptr_diff::diff;
-use jsonptr_diff::laws::difference_law;
 use jsonptr_patch::{PatchError, apply};
+use jsonptr_patch_diff::diff;
+use jsonptr_patch_diff::laws::difference_law;
 use serde_json::Value;
 use std::alloc::Global;
 

@@ -3,10 +3,10 @@ ghost use Rattle.std.specs.Prelude.{◌≡◌, ◌⊎◌, ◌∷◌, [], IfOk, I
 ghost use Rattle.serde_json.specs.Data.{Data};
 ghost use Rattle.jsonptr.specs.Pointer.{tokens};
 ghost use Rattle.jsonptr.specs.declared.resolve.Error.{Error};
-ghost use Rattle.jsonptr_in_text.specs.InText.{FindsInText, RefusesInText};
-ghost use Rattle.jsonptr_edit_in_text.specs.EditInText.{LacksInText};
-ghost use Rattle.jsonptr_edit_in_text.specs.OneLine.{StaysOneLine};
-ghost use Rattle.jsonptr_edit_in_text.specs.PatchInText.{PatchesInText, MovesBytes};
+ghost use Rattle.jsonptr_text_resolve.specs.InText.{FindsInText, RefusesInText};
+ghost use Rattle.jsonptr_text_step.specs.EditInText.{LacksInText};
+ghost use Rattle.jsonptr_text_step.specs.OneLine.{StaysOneLine};
+ghost use Rattle.jsonptr_text_step.specs.PatchInText.{PatchesInText, MovesBytes};
 ghost use Rattle.jsonptr_patch.specs.declared.failed_operation.FailedOperation.{FailedOperation as a_failed_operation};
 ghost use Rattle.jsonptr_patch.specs.declared.operation.Operation.TheVariants.{Move};
 ghost use Rattle.jsonptr_text_value.specs.Operations.{operations_in};
@@ -17,9 +17,9 @@ ghost use Rattle.jsonptr_text_edit.specs.declared.edit.Edit.TheVariants.{Assign,
 ghost use Rattle.jsonptr_text_edit.specs.declared.edit_error.EditError.TheVariants.{NotThere, Patch};
 
 use jsonptr::{Pointer, PointerBuf};
-use jsonptr_in_text::exists_in_text;
 use jsonptr_patch::Operation;
 use jsonptr_text_edit::{Buffers, Edit, EditError, Edited, PatchText, RawValue, edit_text};
+use jsonptr_text_resolve::exists_in_text;
 use jsonptr_value::ReadError;
 use std::alloc::{AllocError, Global};
 

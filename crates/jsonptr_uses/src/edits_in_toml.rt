@@ -2,13 +2,13 @@
 ghost use Rattle.std.specs.Prelude.{IfOk, IfSome, MatchOption, string_bytes};
 ghost use Rattle.toml.specs.View.{view};
 ghost use Rattle.jsonptr.specs.Pointer.{tokens};
-ghost use Rattle.jsonptr_in_toml.specs.InToml.{LacksInToml};
-ghost use Rattle.jsonptr_edit_in_toml.specs.Bytes.{AssignsTomlBytes, DeletesTomlBytes};
-ghost use Rattle.jsonptr_edit_in_toml.specs.EditInToml.{AssignsInToml, DeletesInToml};
+ghost use Rattle.jsonptr_toml.specs.InToml.{LacksInToml};
+ghost use Rattle.jsonptr_toml_edit.specs.Bytes.{AssignsTomlBytes, DeletesTomlBytes};
+ghost use Rattle.jsonptr_toml_edit.specs.EditInToml.{AssignsInToml, DeletesInToml};
 ghost use Rattle.jsonptr_uses.specs.EditsInToml.{AssignsAndDeletes, AssignsAndLacks};
 
 use jsonptr::Pointer;
-use jsonptr_edit_in_toml::{Edited, TomlEdit, TomlEditError, edit_toml};
+use jsonptr_toml_edit::{Edited, TomlEdit, TomlEditError, edit_toml};
 use std::alloc::Global;
 use thiserror::Error;
 use toml::Value;

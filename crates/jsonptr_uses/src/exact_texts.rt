@@ -3,10 +3,10 @@ ghost use Rattle.std.specs.Prelude.{◌≡◌, Some, IfOk, IfErr, string_bytes};
 ghost use Rattle.serde_json.specs.Data.{Data};
 ghost use Rattle.serde_json.specs.Read.{read};
 ghost use Rattle.serde_json.specs.Written.{IsInOrder};
-ghost use Rattle.jsonptr_numbers.specs.Digits.{KeepsDigits};
-ghost use Rattle.jsonptr_numbers.specs.Exact.{IsExactError};
+ghost use Rattle.jsonptr_text_digits.specs.Digits.{KeepsDigits};
+ghost use Rattle.jsonptr_text_digits.specs.Exact.{IsExactError};
 
-use jsonptr_numbers::{ExactError, read_exactly};
+use jsonptr_text_digits::{ExactError, read_exactly};
 use jsonptr_value::to_string;
 use std::alloc::Global;
 

@@ -1,8 +1,8 @@
 //! A patch document that is applied with the texts of its values, as somebody wrote them.
 ghost use Rattle.std.specs.Prelude.{List, All, IfOk, IfSome, string_bytes};
-ghost use Rattle.jsonptr_edit_in_text.specs.PatchInText.{PatchesInText};
+ghost use Rattle.jsonptr_text_step.specs.PatchInText.{PatchesInText};
 ghost use Rattle.jsonptr_text_value.specs.Operations.{operations_in, IsGivenIn};
-ghost use Rattle.jsonptr_edit_in_text.specs.RawPatching.{RawPatchBytes};
+ghost use Rattle.jsonptr_text_step.specs.RawPatching.{RawPatchBytes};
 ghost use Rattle.jsonptr_text_value.specs.declared.raw_operation.RawOperation.{RawOperation};
 
 use jsonptr_text_edit::{Buffers, Edit, EditError, PatchText, edit_text};

@@ -5,9 +5,9 @@ ghost use Rattle.serde_json.specs.Read.{read};
 ghost use Rattle.serde_json.specs.View.{view};
 ghost use Rattle.jsonptr.specs.Text.{Text};
 ghost use Rattle.jsonptr.specs.declared.resolve.Error.{Error};
-ghost use Rattle.jsonptr_in_text.specs.InText.{FindsInText};
+ghost use Rattle.jsonptr_text_resolve.specs.InText.{FindsInText};
 ghost use Rattle.jsonptr_json_edits.specs.Child.{IsValueText};
-ghost use Rattle.jsonptr_edit_in_text.specs.Locating.{IsOutside};
+ghost use Rattle.jsonptr_text_step.specs.Locating.{IsOutside};
 ghost use Rattle.jsonptr_c_calls.specs.InTexts.{FindsTextIn, IsNotPrintedFrom};
 ghost use Rattle.jsonptr_value.specs.NodeTypes.{type_of};
 ghost use Rattle.jsonptr_value.specs.declared.types.NodeType.TheVariants.{String as a_string};
@@ -16,13 +16,13 @@ ghost use Rattle.jsonptr_c_calls.specs.Patches.{IsDiffText};
 ghost use Rattle.jsonptr_c_calls.specs.Pointers.{HasTokens};
 ghost use Rattle.jsonptr_c_calls.specs.Values.{FindsAtPointer, FindsString, HoldsWith};
 ghost use Rattle.jsonptr_c_calls.specs.declared.call_error.CallError.TheVariants.{Resolve};
-ghost use Rattle.jsonptr_in_text.specs.declared.format.Format.TheVariants.{Compact};
+ghost use Rattle.jsonptr_text_resolve.specs.declared.format.Format.TheVariants.{Compact};
 
 use jsonptr_c_calls::call_error::CallError;
 use jsonptr_c_calls::node::STRING;
 use jsonptr_c_calls::{documents, locations, texts};
 use jsonptr_c_handle::handle::Handle;
-use jsonptr_in_text::Format;
+use jsonptr_text_resolve::Format;
 use std::alloc::Global;
 
 /// Copies the string that the pointer resolves to in a JSON text to the buffer, and returns its

@@ -4,13 +4,13 @@ ghost use Rattle.serde_json.specs.Data.{Data};
 ghost use Rattle.serde_json.specs.Read.{read};
 ghost use Rattle.serde_json.specs.View.{view};
 ghost use Rattle.jsonptr_c_calls.specs.Patches.{AppliesText};
-ghost use Rattle.jsonptr_in_text.specs.declared.format.Format.TheVariants.{Compact};
+ghost use Rattle.jsonptr_text_resolve.specs.declared.format.Format.TheVariants.{Compact};
 ghost use Rattle.jsonptr_c_calls.specs.Values.{HoldsWith, FindsTextOf};
 
 use jsonptr_c_calls::call_error::CallError;
 use jsonptr_c_calls::documents;
 use jsonptr_c_handle::handle::Handle;
-use jsonptr_in_text::Format;
+use jsonptr_text_resolve::Format;
 use std::alloc::Global;
 
 /// Applies a patch document to a JSON text, copies the value that the pointer resolves to in the new

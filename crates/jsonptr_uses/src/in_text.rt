@@ -4,13 +4,13 @@ ghost use Rattle.std.specs.Str.{IsUtf8};
 ghost use Rattle.serde_json.specs.Data.{Data, string};
 ghost use Rattle.serde_json.specs.Read.{read};
 ghost use Rattle.jsonptr.specs.Pointer.{tokens};
-ghost use Rattle.jsonptr_in_text.specs.InText.{FindsInText};
+ghost use Rattle.jsonptr_text_resolve.specs.InText.{FindsInText};
 ghost use Rattle.jsonptr_uses.specs.InText.{IsNumberAt, IsRangeAt};
 ghost use Rattle.jsonptr_uses.specs.declared.sessions.TextError.TheVariants.{NotJson};
 
 use crate::sessions::TextError;
 use jsonptr::Pointer;
-use jsonptr_in_text::{InTextError, resolve_in_slice, resolve_in_text};
+use jsonptr_text_resolve::{InTextError, resolve_in_slice, resolve_in_text};
 use std::alloc::Global;
 
 /// Returns the number that the pointer resolves to in the document that the text contains, or

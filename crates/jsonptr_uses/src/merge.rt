@@ -9,9 +9,9 @@ ghost use Rattle.jsonptr_patch.specs.declared.operation.Operation.{Operation as 
 ghost use Rattle.jsonptr_patch_document.specs.Writing.{document_of};
 
 use jsonptr::Fault;
-use jsonptr_diff::diff;
 use jsonptr_patch::laws::apart::apart_law;
 use jsonptr_patch::{Operation, PatchError, apply, are_apart};
+use jsonptr_patch_diff::diff;
 use jsonptr_patch_document::write_patch;
 use serde_json::Value;
 use std::alloc::{AllocError, Global};

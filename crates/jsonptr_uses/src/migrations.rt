@@ -3,14 +3,14 @@ ghost use Rattle.std.specs.Prelude.{◌≡◌, ◌⊎◌, IfOk, IfErr, IfSome, M
 ghost use Rattle.jsonptr.specs.Pointer.{tokens};
 ghost use Rattle.jsonptr.specs.Text.{Text};
 ghost use Rattle.jsonptr_comments.specs.Comments.{IsWithoutComments};
-ghost use Rattle.jsonptr_edit_in_text.specs.EditInText.{LacksInText};
-ghost use Rattle.jsonptr_edit_in_text.specs.Renaming.{RenamesInText};
-ghost use Rattle.jsonptr_edit_with_comments.specs.EditWithComments.{Becomes};
-ghost use Rattle.jsonptr_edit_with_comments.specs.Edits.{IsRenaming};
+ghost use Rattle.jsonptr_text_step.specs.EditInText.{LacksInText};
+ghost use Rattle.jsonptr_text_step.specs.Renaming.{RenamesInText};
+ghost use Rattle.jsonptr_comments_step.specs.EditWithComments.{Becomes};
+ghost use Rattle.jsonptr_comments_step.specs.Edits.{IsRenaming};
 ghost use Rattle.jsonptr_text_edit.specs.Edited.{text_of, IfInPlace};
 ghost use Rattle.jsonptr_text_edit.specs.declared.edit.Edit.TheVariants.{Rename};
 ghost use Rattle.jsonptr_text_edit.specs.declared.edit_error.EditError.TheVariants as error;
-ghost use Rattle.jsonptr_edit_in_text.specs.declared.rename.RenameError.TheVariants.{NotThere};
+ghost use Rattle.jsonptr_text_step.specs.declared.rename.RenameError.TheVariants.{NotThere};
 ghost use Rattle.jsonptr_comments_edit.specs.Commented.{IsCommentedError};
 
 use jsonptr::Pointer;

@@ -5,14 +5,14 @@ ghost use Rattle.serde_json.specs.Read.{max_depth};
 ghost use Rattle.serde_json.specs.View.{view};
 ghost use Rattle.jsonptr.specs.Json.{nodes, HasSortedKeys};
 ghost use Rattle.jsonptr.specs.Text.{Text};
-ghost use Rattle.jsonptr_paths.specs.Walking.{IsWalk};
-ghost use Rattle.jsonptr_paths.specs.declared.build.LineError.{LineError};
-ghost use Rattle.jsonptr_paths.specs.declared.build.BuildError.TheVariants.{Line};
+ghost use Rattle.jsonptr_text_paths.specs.Walking.{IsWalk};
+ghost use Rattle.jsonptr_text_paths.specs.declared.build.LineError.{LineError};
+ghost use Rattle.jsonptr_text_paths.specs.declared.build.BuildError.TheVariants.{Line};
 
-use jsonptr_paths::build::{BuildError, build};
-use jsonptr_paths::laws::round_trip_law;
-use jsonptr_paths::listing::{Listed, list};
-use jsonptr_paths::walk::pointers;
+use jsonptr_text_paths::build::{BuildError, build};
+use jsonptr_text_paths::laws::round_trip_law;
+use jsonptr_text_paths::listing::{Listed, list};
+use jsonptr_text_paths::walk::pointers;
 use serde_json::Value;
 use std::alloc::{AllocError, Global};
 

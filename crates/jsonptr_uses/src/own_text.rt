@@ -2,13 +2,13 @@
 ghost use Rattle.std.specs.Prelude.{◌≡◌, IfOk, IfErr, length, string_bytes};
 ghost use Rattle.jsonptr.specs.Pointer.{tokens};
 ghost use Rattle.jsonptr.specs.Text.{Text};
-ghost use Rattle.jsonptr_in_text.specs.Format.{IsFormatted};
-ghost use Rattle.jsonptr_in_text.specs.declared.format.Format.TheVariants.{Compact};
-ghost use Rattle.jsonptr_edit_in_text.specs.Locating.{IsLocated, IsLocateError};
+ghost use Rattle.jsonptr_text_resolve.specs.Format.{IsFormatted};
+ghost use Rattle.jsonptr_text_resolve.specs.declared.format.Format.TheVariants.{Compact};
+ghost use Rattle.jsonptr_text_step.specs.Locating.{IsLocated, IsLocateError};
 
 use jsonptr::Pointer;
-use jsonptr_in_text::{Format, format_text};
 use jsonptr_text_edit::{Buffers, LocateError, locate};
+use jsonptr_text_resolve::{Format, format_text};
 use jsonptr_value::ReadError;
 
 /// Returns the offset, in bytes, at which the value that the pointer resolves to begins.

@@ -4,7 +4,7 @@ ghost use Rattle.serde_json.specs.Data.{Data};
 ghost use Rattle.serde_json.specs.Read.{read};
 ghost use Rattle.serde_json.specs.View.{view};
 ghost use Rattle.jsonptr.specs.Text.{Text};
-ghost use Rattle.jsonptr_edit_in_text.specs.RawPatching.{RawPatchBytes};
+ghost use Rattle.jsonptr_text_step.specs.RawPatching.{RawPatchBytes};
 ghost use Rattle.jptr_tasks.specs.Results.{PatchesBytesInLayout};
 ghost use Rattle.jptr_tasks.specs.declared.layout.Layout.TheVariants.{Kept};
 

@@ -1,10 +1,10 @@
 //! The program, run in memory.
 ghost use Rattle.std.specs.Prelude.{◌≡◌, Some, IfOk, IfErr, map, option_map, string_bytes};
 ghost use Rattle.serde_json.specs.View.{view};
-ghost use Rattle.jsonptr_command.specs.Run.{ForLine, ForRequest, HasValueOf, IsRefusedSo, NeedInput};
+ghost use Rattle.jsonptr_run_command.specs.Run.{ForLine, ForRequest, HasValueOf, IsRefusedSo, NeedInput};
 
-use jsonptr_command::fault::RunFault;
-use jsonptr_command::run::{run_program, run_program_into};
+use jsonptr_run_command::fault::RunFault;
+use jsonptr_run_command::run::{run_program, run_program_into};
 use serde_json::Value;
 use std::alloc::Global;
 

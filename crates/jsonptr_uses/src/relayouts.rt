@@ -3,9 +3,9 @@ ghost use Rattle.std.specs.Prelude.{◌≡◌, IfOk, IfErr, Some, string_bytes};
 ghost use Rattle.serde_json.specs.Data.{Data};
 ghost use Rattle.serde_json.specs.Read.{read};
 ghost use Rattle.jsonptr.specs.Json.{nodes};
-ghost use Rattle.jsonptr_relayout.specs.Relaying.{ReadsAs, IsRelayoutTextError};
+ghost use Rattle.jsonptr_text_relayout.specs.Relaying.{ReadsAs, IsRelayoutTextError};
 
-use jsonptr_relayout::{Buffers, Relaid, RelayoutTextError, relayout_text};
+use jsonptr_text_relayout::{Buffers, Relaid, RelayoutTextError, relayout_text};
 
 /// Returns the text of a file after another program printed its document anew, in the layout that
 /// the file had.

@@ -1,6 +1,6 @@
 //! Several settings of a text that people keep under version control, each set in place or not at all.
 ghost use Rattle.std.specs.Prelude.{◌≡◌, ◌∷◌, ◌++◌, [], IfOk, IfErr, string_bytes};
-ghost use Rattle.jsonptr_edit_in_text.specs.OneLine.{StaysOneLine};
+ghost use Rattle.jsonptr_text_step.specs.OneLine.{StaysOneLine};
 ghost use Rattle.jsonptr_text_edit.specs.Errors.{IsEditError};
 ghost use Rattle.jsonptr_uses.specs.SettingsInPlace.{AreSet, IsNext, StopsAt};
 

@@ -3,15 +3,15 @@ ghost use Rattle.std.specs.Prelude.{◌≡◌, ◌⊎◌, IfOk, IfErr, IsTrue, M
 ghost use Rattle.toml.specs.Data.{Data};
 ghost use Rattle.toml.specs.View.{view};
 ghost use Rattle.jsonptr.specs.Pointer.{tokens};
-ghost use Rattle.jsonptr_in_toml.specs.InToml.{FindsInToml, AssignsAndPrintsToml, DeletesAndPrintsToml, LacksInToml, ListsInToml, IsAssignAndPrintError, IsDeleteAndPrintError, IsReadTomlError};
-ghost use Rattle.jsonptr_paths.specs.declared.listing.Listed.TheVariants.{Leaves};
+ghost use Rattle.jsonptr_toml.specs.InToml.{FindsInToml, AssignsAndPrintsToml, DeletesAndPrintsToml, LacksInToml, ListsInToml, IsAssignAndPrintError, IsDeleteAndPrintError, IsReadTomlError};
+ghost use Rattle.jsonptr_text_paths.specs.declared.listing.Listed.TheVariants.{Leaves};
 
 use jsonptr::{Pointer, assign};
-use jsonptr_in_toml::{
+use jsonptr_text_paths::listing::Listed;
+use jsonptr_toml::{
     EditTomlError, InTomlError, ReadTomlError, assign_and_print_toml, delete_and_print_toml,
     list_in_toml, resolve_in_toml,
 };
-use jsonptr_paths::listing::Listed;
 use std::alloc::Global;
 use std::convert::Infallible;
 use toml::Value;

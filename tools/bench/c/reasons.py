@@ -30,7 +30,7 @@ DROPPING = ("dropping the values", r"drop|destroy|Destruct")
 PATCHING = [KERNEL, MEMORY, ("clearing the reader's index, at each text", r"memset"), DROPPING,
             ("the operations: members, pointers, copies of values",
              r"jsonptr_patch_document|value::Value::get|Index|jsonptr_syntax|memchr|memrchr|serde_json::clone|bcmp|memcmp|strlen"),
-            ("applying them, and the journal", r"jsonptr_walk|jsonptr_journal|jsonptr_patch|jsonptr_document|jsonptr_base|jsonptr::"),
+            ("applying them, and the journal", r"jsonptr_walk|jsonptr_patch_journal|jsonptr_patch|jsonptr_document|jsonptr_base|jsonptr::"),
             ("the call: handle, depth, record", r"jsonptr_c_calls|jsonptrcore|jsonptr_c_handle|jsonptr_document_patch"), READING]
 ROWS = [
     ("find a member", 1500, [KERNEL, MEMORY,

@@ -1,8 +1,8 @@
 use Rattle.std.proofs.Common.{subst}
 use Rattle.std.proofs.lemmas.Result.{IfErr-weaker}
 use Rattle.jsonptr.specs.Text.{Text}
-use Rattle.jsonptr_edit_in_text.specs.PatchInText.{PatchesInText}
-use Rattle.jsonptr_relayout.specs.Relaying.{text_of_relaid}
+use Rattle.jsonptr_text_step.specs.PatchInText.{PatchesInText}
+use Rattle.jsonptr_text_relayout.specs.Relaying.{text_of_relaid}
 use Rattle.jptr_tasks.specs.PrivateResults.{IsLayoutError}
 use Rattle.jptr_tasks.proofs.LongPatchLemmas.{after_fails, applies_in_none}
 use Rattle.jptr_tasks.proofs.ResultLemmas.{remade}

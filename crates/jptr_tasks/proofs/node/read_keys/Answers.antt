@@ -1,5 +1,5 @@
 use Rattle.std.proofs.Common.{◌≡◌, [], ◌∷◌, ◌++◌, string_bytes, rules}
-use Rattle.jsonptr_json_search.proofs.ReadingLemmas.{a_key}
+use Rattle.jsonptr_text_search.proofs.ReadingLemmas.{a_key}
 use Rattle.jptr_tasks.proofs.NodeLemmas.{one_key}
 use Rattle.jptr_tasks.proofs.node.read_keys.Goals as goal
 

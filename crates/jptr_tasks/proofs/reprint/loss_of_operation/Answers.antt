@@ -1,8 +1,8 @@
 use Rattle.std.proofs.Common.{IfOk, MatchOption, subst}
 use Rattle.std.proofs.lemmas.Result.{IfOk-weaker}
 use Rattle.jsonptr.specs.Text.{Text}
-use Rattle.jsonptr_numbers.specs.Digits.{KeepsDigits}
-use Rattle.jsonptr_numbers.specs.Lost.{Loses}
+use Rattle.jsonptr_text_digits.specs.Digits.{KeepsDigits}
+use Rattle.jsonptr_text_digits.specs.Lost.{Loses}
 use Rattle.jptr_tasks.proofs.ReprintLemmas.{given_or_lost}
 use Rattle.jptr_tasks.proofs.reprint.loss_of_operation.Goals as goal
 

@@ -1,7 +1,7 @@
 use Rattle.std.proofs.Common.{length, subst}
 use Rattle.serde_json.specs.View.{view}
 use Rattle.jsonptr_c_calls.specs.Failures.{FailsOnHandle, IsNotPrinted}
-use Rattle.jsonptr_in_text.specs.declared.format.Format.{Format}
+use Rattle.jsonptr_text_resolve.specs.declared.format.Format.{Format}
 use Rattle.jsonptr_c.proofs.documents.jsonptrcore_document_get.Goals as goal
 
 pub returns-in-Err-clause-refused : goal.returns-in-Err-clause-refused

@@ -1,6 +1,6 @@
 use Rattle.std.proofs.Common.{◌⊎◌, length, subst}
 use Rattle.jsonptr_c_calls.specs.Patches.{IsNotAppliedWithInverse, IsNotPatchText}
-use Rattle.jsonptr_in_text.specs.declared.format.Format.{Format}
+use Rattle.jsonptr_text_resolve.specs.declared.format.Format.{Format}
 use Rattle.jsonptr_c.proofs.documents.jsonptrcore_document_patch_with_inverse.Goals as goal
 
 pub returns-in-Err-clause-refused : goal.returns-in-Err-clause-refused

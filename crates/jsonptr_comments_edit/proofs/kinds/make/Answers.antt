@@ -1,7 +1,7 @@
 use Rattle.std.proofs.Common.{List, IfOk, IfSome, string_bytes, subst}
-use Rattle.jsonptr_edit_in_text.proofs.EditLemmas.{if_both}
-use Rattle.jsonptr_edit_in_text.specs.PatchInText.{PatchesInText}
-use Rattle.jsonptr_edit_with_comments.specs.EditWithComments.{Becomes}
+use Rattle.jsonptr_text_step.proofs.EditLemmas.{if_both}
+use Rattle.jsonptr_text_step.specs.PatchInText.{PatchesInText}
+use Rattle.jsonptr_comments_step.specs.EditWithComments.{Becomes}
 use Rattle.jsonptr_text_value.specs.Operations.{operations_in}
 use Rattle.jsonptr_text_value.specs.declared.raw_operation.RawOperation.{RawOperation}
 use Rattle.jsonptr_comments_edit.proofs.kinds.make.Goals as goal

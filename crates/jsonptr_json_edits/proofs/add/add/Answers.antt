@@ -2,7 +2,7 @@ use Rattle.std.proofs.Common.{◌≡◌, ◌∷◌, List, ℕ, Some, refl, ap, �
 use Rattle.json.specs.Reads.{token_of}
 use Rattle.serde_json.specs.Data.{object}
 use Rattle.serde_json.specs.Read.{read}
-use Rattle.jsonptr_json_search.proofs.ReadingLemmas.{reads_object}
+use Rattle.jsonptr_text_search.proofs.ReadingLemmas.{reads_object}
 use Rattle.jsonptr_json_edits.specs.Editing.{InsertsMember}
 use Rattle.jsonptr_json_edits.proofs.add.add.Goals as goal
 

@@ -1,6 +1,6 @@
 use Rattle.std.proofs.Common.{◌≡◌, ◌≤◌, List, length}
 use Rattle.serde_json.specs.Data.{Data}
-use Rattle.jsonptr_json_search.specs.PrivateReading.{ItemsSoFar}
+use Rattle.jsonptr_text_search.specs.PrivateReading.{ItemsSoFar}
 use Rattle.jsonptr_json_edits.specs.PrivateEditing.{ItemsAdded}
 use Rattle.jsonptr_json_edits.proofs.add.add_element.Given as goal
 

@@ -1,7 +1,7 @@
 use Rattle.std.proofs.Common.{◌≡◌, Bool, true, Some, refl, sym, subst, arith}
 use Rattle.json.proofs.Grammar.{read_key-shorter}
 use Rattle.serde_json.specs.Data.{no_members, put}
-use Rattle.jsonptr_json_search.proofs.ReadingLemmas.{members_begin, members_go_on, members_close, a_key, no_key}
+use Rattle.jsonptr_text_search.proofs.ReadingLemmas.{members_begin, members_go_on, members_close, a_key, no_key}
 use Rattle.jsonptr_json_edits.specs.PrivateEditing.{MembersAdded}
 use Rattle.jsonptr_json_edits.proofs.AddingLemmas.{members_after}
 use Rattle.jsonptr_json_edits.proofs.SideLemmas.{no_name}

@@ -1,6 +1,6 @@
 use Rattle.std.proofs.Common.{◌≤◌, length}
 use Rattle.serde_json.specs.Data.{Members}
-use Rattle.jsonptr_json_search.specs.PrivateReading.{MembersSoFar}
+use Rattle.jsonptr_text_search.specs.PrivateReading.{MembersSoFar}
 use Rattle.jsonptr_json_edits.specs.PrivateEditing.{MembersAdded}
 use Rattle.jsonptr_json_edits.proofs.add.add_member.Given as goal
 

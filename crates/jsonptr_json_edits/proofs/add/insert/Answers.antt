@@ -2,7 +2,7 @@ use Rattle.std.proofs.Common.{◌≡◌, ◌∷◌, List, ℕ, Some, refl, ap, �
 use Rattle.json.specs.Reads.{token_of}
 use Rattle.serde_json.specs.Data.{array}
 use Rattle.serde_json.specs.Read.{read}
-use Rattle.jsonptr_json_search.proofs.ReadingLemmas.{reads_array}
+use Rattle.jsonptr_text_search.proofs.ReadingLemmas.{reads_array}
 use Rattle.jsonptr_json_edits.proofs.add.insert.Goals as goal
 
 pub returns-in_ok-add_element-in-BeginArray-clause-passed : goal.returns-in_ok-add_element-in-BeginArray-clause-passed

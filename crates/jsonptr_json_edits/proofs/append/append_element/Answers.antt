@@ -1,9 +1,9 @@
 use Rattle.std.proofs.Common.{◌<◌, List, ◌∷◌, ◌++◌, [], length, refl, sym, ◌∙◌, ◌≡◌, subst, arith, length-append}
 use Rattle.json.specs.Token.{Token}
 use Rattle.serde_json.specs.Data.{no_items}
-use Rattle.jsonptr_json_search.specs.PrivateReading.{with_items_before}
-use Rattle.jsonptr_json_search.proofs.ReadingLemmas.{items_begin, items_go_on, items_close}
-use Rattle.jsonptr_json_search.proofs.SearchLemmas.{len_before}
+use Rattle.jsonptr_text_search.specs.PrivateReading.{with_items_before}
+use Rattle.jsonptr_text_search.proofs.ReadingLemmas.{items_begin, items_go_on, items_close}
+use Rattle.jsonptr_text_search.proofs.SearchLemmas.{len_before}
 use Rattle.jsonptr_json_edits.proofs.ChildLemmas.{appends_item}
 use Rattle.jsonptr_json_edits.proofs.append.append_element.Goals as goal
 

@@ -3,9 +3,9 @@ use Rattle.json.specs.Token.{Token}
 use Rattle.json.specs.Reads.{token_of}
 use Rattle.json.proofs.Grammar.{read_key-shorter}
 use Rattle.serde_json.specs.Data.{array, object, no_items, no_members, put}
-use Rattle.jsonptr_json_search.specs.PrivateReading.{with_items_before}
-use Rattle.jsonptr_json_search.specs.Search.{Choice, choice_of, choices}
-use Rattle.jsonptr_json_search.proofs.ReadingLemmas.{items_begin, items_go_on, items_close, members_begin, members_go_on, members_close, reads_array, reads_object, a_key, no_key}
+use Rattle.jsonptr_text_search.specs.PrivateReading.{with_items_before}
+use Rattle.jsonptr_text_search.specs.Search.{Choice, choice_of, choices}
+use Rattle.jsonptr_text_search.proofs.ReadingLemmas.{items_begin, items_go_on, items_close, members_begin, members_go_on, members_close, reads_array, reads_object, a_key, no_key}
 use Rattle.jsonptr_json_edits.specs.Editing.{OnlyMemberDiffers, ChangesAt, Makes}
 use Rattle.jsonptr_json_edits.specs.PrivateEditing.{ItemsSo, MembersSo}
 use Rattle.jsonptr_json_edits.proofs.ChildLemmas.{one_item, only_differs, one_member}

@@ -1,7 +1,7 @@
 use Rattle.std.proofs.Common.{◌≡◌, ◌+◌, ◌*◌, ◌≤◌, List, length}
 use Rattle.serde_json.specs.Data.{Data, Members}
-use Rattle.jsonptr_json_search.specs.Search.{choices}
-use Rattle.jsonptr_json_search.specs.PrivateReading.{ItemsSoFar, MembersSoFar}
+use Rattle.jsonptr_text_search.specs.Search.{choices}
+use Rattle.jsonptr_text_search.specs.PrivateReading.{ItemsSoFar, MembersSoFar}
 use Rattle.jsonptr_json_edits.specs.Editing.{ChangesAt, Makes}
 use Rattle.jsonptr_json_edits.specs.PrivateEditing.{ItemsSo, MembersSo}
 use Rattle.jsonptr_json_edits.proofs.check.+change.Given as goal

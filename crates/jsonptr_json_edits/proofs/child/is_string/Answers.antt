@@ -4,7 +4,7 @@ use Rattle.json.specs.Reads.{token_of}
 use Rattle.json.specs.declared.token.Token as Read
 use Rattle.serde_json.specs.Data.{string}
 use Rattle.serde_json.specs.Read.{max_depth}
-use Rattle.jsonptr_json_search.proofs.ReadingLemmas.{scalar_reads, whole_read}
+use Rattle.jsonptr_text_search.proofs.ReadingLemmas.{scalar_reads, whole_read}
 use Rattle.jsonptr_json_edits.proofs.child.is_string.Goals as goal
 
 pub returns : goal.returns

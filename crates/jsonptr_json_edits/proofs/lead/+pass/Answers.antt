@@ -4,9 +4,9 @@ use Rattle.json.specs.Reads.{token_of}
 use Rattle.json.proofs.Grammar.{read_key-shorter}
 use Rattle.serde_json.specs.Data.{array, object, no_items, no_members, put}
 use Rattle.serde_json.specs.Find.{get_member, get_item}
-use Rattle.jsonptr_json_search.specs.PrivateReading.{with_items_before}
-use Rattle.jsonptr_json_search.specs.Search.{Choice, choice_of, choices}
-use Rattle.jsonptr_json_search.proofs.ReadingLemmas.{items_begin, items_go_on, items_close, members_begin, members_go_on, members_close, reads_array, reads_object, a_key, no_key}
+use Rattle.jsonptr_text_search.specs.PrivateReading.{with_items_before}
+use Rattle.jsonptr_text_search.specs.Search.{Choice, choice_of, choices}
+use Rattle.jsonptr_text_search.proofs.ReadingLemmas.{items_begin, items_go_on, items_close, members_begin, members_go_on, members_close, reads_array, reads_object, a_key, no_key}
 use Rattle.jsonptr_json_edits.specs.Leading.{LeadsToText, Passes}
 use Rattle.jsonptr_json_edits.specs.PrivateLeading.{ChildLeads, ChildLeadsIf, Placed, ElementsPlaced, MembersPlaced, EndsMember}
 use Rattle.jsonptr_json_edits.proofs.LeadingLemmas.{next_item, next_member, leads_by_item, leads_by_member, next_element, element_closed, next_member_placed, member_closed, placed_by_element, placed_by_member, placed_here, no_selectors}

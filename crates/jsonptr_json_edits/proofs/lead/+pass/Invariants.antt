@@ -1,8 +1,8 @@
 use Rattle.std.proofs.Common.{◌≡◌, ◌+◌, ◌*◌, ◌≤◌, List, length}
 use Rattle.serde_json.specs.Data.{Data, Members, no_items}
 use Rattle.serde_json.specs.Find.{get_member, get_item}
-use Rattle.jsonptr_json_search.specs.Search.{choices}
-use Rattle.jsonptr_json_search.specs.PrivateReading.{ItemsSoFar, MembersSoFar, with_items_before}
+use Rattle.jsonptr_text_search.specs.Search.{choices}
+use Rattle.jsonptr_text_search.specs.PrivateReading.{ItemsSoFar, MembersSoFar, with_items_before}
 use Rattle.jsonptr_json_edits.specs.PrivateLeading.{ChildLeadsIf, ElementsPlaced, MembersPlaced}
 use Rattle.jsonptr_json_edits.proofs.lead.+pass.Given as goal
 

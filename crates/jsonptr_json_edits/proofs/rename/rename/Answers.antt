@@ -1,7 +1,7 @@
 use Rattle.std.proofs.Common.{◌∷◌, List, ℕ, string_bytes, refl, ap, ◌∙◌, subst, arith}
 use Rattle.json.specs.Reads.{token_of}
 use Rattle.serde_json.specs.Data.{object}
-use Rattle.jsonptr_json_search.proofs.ReadingLemmas.{reads_object}
+use Rattle.jsonptr_text_search.proofs.ReadingLemmas.{reads_object}
 use Rattle.jsonptr_json_edits.specs.Editing.{RenamesKey}
 use Rattle.jsonptr_json_edits.proofs.rename.rename.Goals as goal
 

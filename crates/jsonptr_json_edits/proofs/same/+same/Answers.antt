@@ -3,8 +3,8 @@ use Rattle.json.specs.Token.{Token}
 use Rattle.json.specs.Reads.{token_of}
 use Rattle.json.proofs.Grammar.{read_key-shorter}
 use Rattle.serde_json.specs.Data.{array, object, no_items, no_members, put}
-use Rattle.jsonptr_json_search.specs.PrivateReading.{with_items_before}
-use Rattle.jsonptr_json_search.proofs.ReadingLemmas.{items_begin, items_go_on, items_close, members_begin, members_go_on, members_close, reads_array, reads_object, a_key, no_key}
+use Rattle.jsonptr_text_search.specs.PrivateReading.{with_items_before}
+use Rattle.jsonptr_text_search.proofs.ReadingLemmas.{items_begin, items_go_on, items_close, members_begin, members_go_on, members_close, reads_array, reads_object, a_key, no_key}
 use Rattle.jsonptr_json_edits.specs.Alike.{AreAlike}
 use Rattle.jsonptr_json_edits.proofs.AlikeLemmas.{alike_begin, alike_token, alike_more, alike_opened, alike_items_closed, alike_key, alike_members_closed}
 use Rattle.jsonptr_json_edits.proofs.SideLemmas.{both_scalar, no_name}

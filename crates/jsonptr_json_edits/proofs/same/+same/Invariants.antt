@@ -1,6 +1,6 @@
 use Rattle.std.proofs.Common.{◌+◌, ◌*◌, ◌≤◌, List, length}
 use Rattle.serde_json.specs.Data.{Data, Members}
-use Rattle.jsonptr_json_search.specs.PrivateReading.{ItemsSoFar, MembersSoFar}
+use Rattle.jsonptr_text_search.specs.PrivateReading.{ItemsSoFar, MembersSoFar}
 use Rattle.jsonptr_json_edits.specs.Alike.{AreAlike}
 use Rattle.jsonptr_json_edits.proofs.same.+same.Given as goal
 

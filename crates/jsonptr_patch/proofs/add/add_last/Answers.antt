@@ -1,7 +1,7 @@
 use Rattle.serde_json.specs.View.{view}
 use Rattle.jsonptr.specs.Pointer.{tokens}
 use Rattle.jsonptr_tree.proofs.JsonLemmas.{content_one}
-use Rattle.jsonptr_journal.specs.Location.{contents_of}
+use Rattle.jsonptr_patch_journal.specs.Location.{contents_of}
 use Rattle.jsonptr_patch.proofs.PlaceLemmas.{place_allows, place_adds, place_sorted}
 use Rattle.jsonptr_patch.proofs.add.add_last.Goals as goal
 

@@ -1,7 +1,7 @@
 use Rattle.std.proofs.Common.{inl, refl, ap, sym, ◌∙◌, length, option_map}
 use Rattle.jsonptr.specs.Content.{label_of}
-use Rattle.jsonptr_journal.specs.declared.addition.Target.{Target}
-use Rattle.jsonptr_journal.specs.declared.locate.LocatedNode.{LocatedNode}
+use Rattle.jsonptr_patch_journal.specs.declared.addition.Target.{Target}
+use Rattle.jsonptr_patch_journal.specs.declared.locate.LocatedNode.{LocatedNode}
 use Rattle.jsonptr_patch.proofs.AddingLemmas.{scalar_lacks, parent_refused}
 use Rattle.jsonptr_patch.proofs.add.target_of.Goals as goal
 

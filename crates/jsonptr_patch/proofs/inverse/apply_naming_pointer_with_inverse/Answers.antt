@@ -1,6 +1,6 @@
 use Rattle.serde_json.specs.View.{view}
 use Rattle.jsonptr_tree.proofs.JsonLemmas.{content_one}
-use Rattle.jsonptr_journal.specs.Location.{contents_of}
+use Rattle.jsonptr_patch_journal.specs.Location.{contents_of}
 use Rattle.jsonptr_patch.proofs.inverse.apply_naming_pointer_with_inverse.Goals as goal
 
 pub record_with_inverse-requires-clause-undone : goal.record_with_inverse-requires-clause-undone

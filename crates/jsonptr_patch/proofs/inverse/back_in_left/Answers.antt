@@ -1,6 +1,6 @@
 use Rattle.serde_json.specs.View.{view}
 use Rattle.jsonptr_tree.proofs.JsonLemmas.{content_one}
-use Rattle.jsonptr_journal.specs.Location.{path_of, contents_of}
+use Rattle.jsonptr_patch_journal.specs.Location.{path_of, contents_of}
 use Rattle.jsonptr_patch.proofs.ChangeOrderLemmas.{sorted_without}
 use Rattle.jsonptr_patch.proofs.OperatingLemmas.{ok_each, refused_all}
 use Rattle.jsonptr_patch.proofs.inverse.back_in_left.Goals as goal

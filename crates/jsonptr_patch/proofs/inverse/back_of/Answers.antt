@@ -2,7 +2,7 @@ use Rattle.std.proofs.Common.{List, [], ◌∷◌, refl, subst}
 use Rattle.serde_json.specs.View.{view}
 use Rattle.jsonptr.specs.Json.{nodes}
 use Rattle.jsonptr.specs.Text.{Text}
-use Rattle.jsonptr_journal.specs.Location.{path_of}
+use Rattle.jsonptr_patch_journal.specs.Location.{path_of}
 use Rattle.jsonptr_walk.proofs.FollowLemmas.{refused_on}
 use Rattle.jsonptr_patch.specs.Inverse.{TakesAddBack}
 use Rattle.jsonptr_patch.proofs.BackLemmas.{copy_add_refused, moved_back}

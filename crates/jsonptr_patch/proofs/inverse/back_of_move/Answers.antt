@@ -5,7 +5,7 @@ use Rattle.jsonptr.specs.Json.{nodes, HasSortedKeys}
 use Rattle.jsonptr.specs.Pointer.{tokens}
 use Rattle.jsonptr.specs.Content.{map_of}
 use Rattle.jsonptr_walk.proofs.FollowLemmas.{refused_on}
-use Rattle.jsonptr_journal.specs.Location.{path_of, contents_of}
+use Rattle.jsonptr_patch_journal.specs.Location.{path_of, contents_of}
 use Rattle.jsonptr_patch.specs.Inverse.{TakesMoveBack}
 use Rattle.jsonptr_patch.specs.Operating.{RefusesTarget}
 use Rattle.jsonptr_patch.specs.declared.failed_operation.PatchPointer.TheVariants as pointer

@@ -1,9 +1,9 @@
 use Rattle.std.proofs.Common.{◌++◌, ◌∷◌, [], ap, ◌∙◌}
 use Rattle.jsonptr.specs.Node.{key}
 use Rattle.jsonptr.specs.Text.{Text}
-use Rattle.jsonptr_journal.specs.Location.{steps_of, path_of}
-use Rattle.jsonptr_journal.specs.declared.location.LocationStep.TheVariants as step
-use Rattle.jsonptr_journal.proofs.LocationLemmas.{steps_of-push}
+use Rattle.jsonptr_patch_journal.specs.Location.{steps_of, path_of}
+use Rattle.jsonptr_patch_journal.specs.declared.location.LocationStep.TheVariants as step
+use Rattle.jsonptr_patch_journal.proofs.LocationLemmas.{steps_of-push}
 use Rattle.jsonptr_patch.proofs.later.below.Goals as goal
 
 pub returns-in-Ok-push : goal.returns-in-Ok-push

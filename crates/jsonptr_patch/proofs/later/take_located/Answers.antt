@@ -2,7 +2,7 @@ use Rattle.std.proofs.Common.{List, subst}
 use Rattle.serde_json.specs.View.{view}
 use Rattle.jsonptr.specs.Json.{nodes}
 use Rattle.jsonptr.specs.Text.{Text}
-use Rattle.jsonptr_journal.specs.Location.{path_of, contents_of}
+use Rattle.jsonptr_patch_journal.specs.Location.{path_of, contents_of}
 use Rattle.jsonptr_patch.specs.PrivateLater.{IsMemberAt}
 use Rattle.jsonptr_patch.proofs.LaterLemmas.{member_named}
 use Rattle.jsonptr_patch.proofs.later.take_located.Goals as goal

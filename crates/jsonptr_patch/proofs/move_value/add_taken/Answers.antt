@@ -1,5 +1,5 @@
 use Rattle.jsonptr.specs.Pointer.{tokens}
-use Rattle.jsonptr_journal.specs.Location.{contents_of}
+use Rattle.jsonptr_patch_journal.specs.Location.{contents_of}
 use Rattle.jsonptr_patch.proofs.PlaceLemmas.{place_allows, place_adds, place_sorted}
 use Rattle.jsonptr_patch.proofs.move_value.add_taken.Goals as goal
 

@@ -6,9 +6,9 @@ use Rattle.jsonptr.specs.Json.{nodes}
 use Rattle.jsonptr.specs.Pointer.{tokens}
 use Rattle.jsonptr.specs.Content.{Content}
 use Rattle.jsonptr_tree.proofs.JsonLemmas.{content_one}
-use Rattle.jsonptr_journal.specs.Location.{path_of, contents_of}
-use Rattle.jsonptr_journal.specs.Writing.{At}
-use Rattle.jsonptr_journal.specs.Changes.{ReplacesContent}
+use Rattle.jsonptr_patch_journal.specs.Location.{path_of, contents_of}
+use Rattle.jsonptr_patch_journal.specs.Writing.{At}
+use Rattle.jsonptr_patch_journal.specs.Changes.{ReplacesContent}
 use Rattle.jsonptr_patch.specs.Operating.{RefusesMove}
 use Rattle.jsonptr_patch.proofs.ChangeOrderLemmas.{sorted_without}
 use Rattle.jsonptr_patch.proofs.LaterLemmas.{blank_sorted, member_named, alone_there, alone_moved, alone_refused}

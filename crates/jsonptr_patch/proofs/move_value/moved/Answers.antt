@@ -5,9 +5,9 @@ use Rattle.jsonptr.specs.Pointer.{tokens}
 use Rattle.jsonptr.specs.Content.{Content}
 use Rattle.jsonptr.specs.Json.{nodes}
 use Rattle.jsonptr_tree.proofs.JsonLemmas.{content_one}
-use Rattle.jsonptr_journal.specs.Location.{path_of, contents_of}
-use Rattle.jsonptr_journal.specs.Undoing.{IsRemoval}
-use Rattle.jsonptr_journal.specs.declared.journal.Entry.{Entry}
+use Rattle.jsonptr_patch_journal.specs.Location.{path_of, contents_of}
+use Rattle.jsonptr_patch_journal.specs.Undoing.{IsRemoval}
+use Rattle.jsonptr_patch_journal.specs.declared.journal.Entry.{Entry}
 use Rattle.jsonptr_patch.specs.Operating.{RefusesMove}
 use Rattle.jsonptr_patch.proofs.ChangeMapLemmas.{takes_node}
 use Rattle.jsonptr_patch.proofs.ChangeOrderLemmas.{sorted_without, sorted_taken}

@@ -1,7 +1,7 @@
 use Rattle.std.proofs.Common.{[], sym}
 use Rattle.serde_json.specs.View.{view}
 use Rattle.jsonptr_tree.proofs.JsonLemmas.{content_one}
-use Rattle.jsonptr_journal.specs.Location.{contents_of}
+use Rattle.jsonptr_patch_journal.specs.Location.{contents_of}
 use Rattle.jsonptr_patch.specs.Order.{OperationHasSortedKeys}
 use Rattle.jsonptr_patch.proofs.OperatingLemmas.{each_at, all_but_last}
 use Rattle.jsonptr_patch.proofs.patch.apply_naming_pointer.Goals as goal

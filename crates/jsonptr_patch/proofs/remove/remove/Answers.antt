@@ -1,6 +1,6 @@
 use Rattle.jsonptr.specs.Pointer.{tokens}
 use Rattle.jsonptr.specs.Content.{map_of}
-use Rattle.jsonptr_journal.specs.Location.{path_of, contents_of}
+use Rattle.jsonptr_patch_journal.specs.Location.{path_of, contents_of}
 use Rattle.jsonptr_patch.proofs.PlaceLemmas.{named_there}
 use Rattle.jsonptr_patch.proofs.ChangeMapLemmas.{takes_node}
 use Rattle.jsonptr_patch.proofs.ChangeOrderLemmas.{sorted_without}

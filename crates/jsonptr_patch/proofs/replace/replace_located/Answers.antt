@@ -1,5 +1,5 @@
 use Rattle.jsonptr.specs.Pointer.{tokens}
-use Rattle.jsonptr_journal.specs.Location.{path_of, contents_of}
+use Rattle.jsonptr_patch_journal.specs.Location.{path_of, contents_of}
 use Rattle.jsonptr_patch.proofs.PlaceLemmas.{named_there}
 use Rattle.jsonptr_patch.proofs.ChangeMapLemmas.{puts_value}
 use Rattle.jsonptr_patch.proofs.ChangeOrderLemmas.{sorted_with_value}

@@ -1,4 +1,4 @@
-use Rattle.jsonptr_journal.specs.Location.{contents_of}
+use Rattle.jsonptr_patch_journal.specs.Location.{contents_of}
 use Rattle.jsonptr_patch.proofs.ReplacingLemmas.{named_puts, named_sorted}
 use Rattle.jsonptr_patch.proofs.replace.replace_plain.Goals as goal
 

@@ -1,4 +1,4 @@
-use Rattle.jsonptr_edit_in_text.specs.EditInText.{edited_text}
+use Rattle.jsonptr_text_step.specs.EditInText.{edited_text}
 use Rattle.jsonptr_text_edit.specs.Edited.{text_of}
 use Rattle.jsonptr_text_edit.proofs.EditLemmas.{edits_same}
 use Rattle.jsonptr_text_edit.proofs.text.edit_text.Goals as goal

@@ -1,9 +1,9 @@
 use Rattle.std.proofs.Common.{◌≡◌, List, ◌∷◌, [], Result, Ok, Err, IfOk, IfErr, string_bytes, sym, subst}
 use Rattle.jsonptr_patch.specs.declared.operation.Operation.{Operation}
 use Rattle.jsonptr_patch.specs.declared.operation.Operation.TheVariants.{Move}
-use Rattle.jsonptr_edit_in_text.specs.PatchInText.{PatchesInText, PatchBytes, MovesBytes}
-use Rattle.jsonptr_edit_in_text.specs.RawPatching.{RawPatchBytes}
-use Rattle.jsonptr_edit_in_text.proofs.RawLemmas.{patch_bytes}
+use Rattle.jsonptr_text_step.specs.PatchInText.{PatchesInText, PatchBytes, MovesBytes}
+use Rattle.jsonptr_text_step.specs.RawPatching.{RawPatchBytes}
+use Rattle.jsonptr_text_step.proofs.RawLemmas.{patch_bytes}
 use Rattle.jsonptr_text_value.specs.Operations.{operations_in}
 use Rattle.jsonptr_text_value.specs.declared.raw_operation.RawOperation.{RawOperation}
 use Rattle.jsonptr_text_edit.specs.Edited.{text_of, IfInPlace}

@@ -5,12 +5,12 @@ use Rattle.serde_json.specs.View.{view}
 use Rattle.serde_json.specs.declared.value.Value.{Value}
 use Rattle.jsonptr.specs.Json.{nodes, HasSortedKeys}
 use Rattle.jsonptr.specs.Text.{Text}
-use Rattle.jsonptr_paths.specs.Listing.{Lists}
-use Rattle.jsonptr_paths.specs.Building.{Builds, StopsBuilding}
-use Rattle.jsonptr_paths.specs.declared.listing.Listed.TheVariants.{AllNodes}
-use Rattle.jsonptr_paths.specs.declared.build.LineError.{LineError}
-use Rattle.jsonptr_paths.specs.declared.build.BuildError.{BuildError}
-use Rattle.jsonptr_paths.specs.declared.build.BuildError.TheVariants.{Line}
+use Rattle.jsonptr_text_paths.specs.Listing.{Lists}
+use Rattle.jsonptr_text_paths.specs.Building.{Builds, StopsBuilding}
+use Rattle.jsonptr_text_paths.specs.declared.listing.Listed.TheVariants.{AllNodes}
+use Rattle.jsonptr_text_paths.specs.declared.build.LineError.{LineError}
+use Rattle.jsonptr_text_paths.specs.declared.build.BuildError.{BuildError}
+use Rattle.jsonptr_text_paths.specs.declared.build.BuildError.TheVariants.{Line}
 use Rattle.jsonptr_uses.proofs.nodes.rebuilt.Goals as goal
 
 same_value : (d : Data) (lines text : Text) (r : Result Value BuildError)

@@ -1,7 +1,7 @@
 use Rattle.std.proofs.Common.{string_bytes, refl, sym, subst}
 use Rattle.serde_json.specs.View.{view}
 use Rattle.jsonptr.specs.Text.{Text}
-use Rattle.jsonptr_edit_in_text.specs.RawPatching.{RawPatchBytes}
+use Rattle.jsonptr_text_step.specs.RawPatching.{RawPatchBytes}
 use Rattle.jptr_tasks.specs.declared.layout.Layout.TheVariants.{Kept, Compact}
 use Rattle.jsonptr_uses.proofs.patched_texts.patched_text.Goals as goal
 

@@ -1,5 +1,5 @@
 use Rattle.std.proofs.Common.{take, string_bytes}
-use Rattle.jsonptr_edit_in_text.specs.OneLine.{StaysOneLine}
+use Rattle.jsonptr_text_step.specs.OneLine.{StaysOneLine}
 use Rattle.jsonptr_uses.specs.SettingsInPlace.{AreSet}
 use Rattle.jsonptr_uses.proofs.settings_in_place.set_in_place.Given as goal
 

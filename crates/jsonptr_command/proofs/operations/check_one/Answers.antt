@@ -1,8 +1,0 @@
-use Rattle.std.proofs.lemmas.Result.{err_from_is_err_and}
-use Rattle.jsonptr_command.proofs.OperationWordsLemmas.{fault_first}
-use Rattle.jsonptr_command.proofs.operations.check_one.Goals as goal
-
-pub returns-in_err-parse-clause-refused : goal.returns-in_err-parse-clause-refused
-returns-in_err-parse-clause-refused c =
-    let p = err_from_is_err_and c.from_residual.result c.from_residual.ensures.1 in
-    rw (p.1, p.2) (fault_first _ _ c.in_err-parse.field-0.0 c.in_err-parse.ensures.refused)

@@ -1,5 +1,0 @@
-use Rattle.std.proofs.Common.{length}
-use Rattle.jsonptr_edit_in_text.proofs.at_offset.path_to.Given as goal
-
-abbrev pub decreases-tokens : goal.decreases-tokens
-decreases-tokens l = length l.reader

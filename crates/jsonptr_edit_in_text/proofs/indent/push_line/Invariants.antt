@@ -1,5 +1,0 @@
-use Rattle.std.proofs.Common.{length}
-use Rattle.jsonptr_edit_in_text.proofs.indent.push_line.Given as goal
-
-abbrev pub decreases-levels : goal.decreases-levels
-decreases-levels l = length l.rest

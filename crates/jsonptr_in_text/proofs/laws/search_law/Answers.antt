@@ -1,8 +1,0 @@
-use Rattle.jsonptr_in_text.proofs.SearchLemmas.{found, stops}
-use Rattle.jsonptr_in_text.proofs.laws.search_law.Goals as goal
-
-pub returns-clause-found : goal.returns-clause-found
-returns-clause-found c = λ d e tokens ws are h. found tokens ws d e are h
-
-pub returns-clause-stops : goal.returns-clause-stops
-returns-clause-stops c = λ d tokens ws left k are small h. stops d tokens ws left k are small h

@@ -1,6 +1,0 @@
-use Rattle.jsonptr_json_search.specs.Search.{choices}
-use Rattle.jsonptr_in_text.specs.Selecting.{AreChoicesOf}
-use Rattle.jsonptr_in_text.proofs.selectors.selectors_of.Given as goal
-
-abbrev pub invariant-loop-token : goal.invariant-loop-token
-invariant-loop-token l = AreChoicesOf l.yielded (choices l.selectors.items)

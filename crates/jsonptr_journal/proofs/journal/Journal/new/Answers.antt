@@ -1,5 +1,0 @@
-use Rattle.jsonptr_journal.proofs.ChainLemmas.{none_undone}
-use Rattle.jsonptr_journal.proofs.journal.Journal.new.Goals as goal
-
-pub returns : goal.returns
-returns c = none_undone _ c.new.ensures.items c.new-2.ensures.items

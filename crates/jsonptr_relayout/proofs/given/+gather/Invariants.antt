@@ -1,4 +1,0 @@
-use Rattle.jsonptr_relayout.proofs.given.+gather.Given as goal
-
-abbrev pub decreases-gather : goal.decreases-gather
-decreases-gather l = l.depth

@@ -1,0 +1,14 @@
+use Rattle.std.proofs.Common.{refl}
+use Rattle.std.proofs.lemmas.Result.{err_from_is_err_and}
+use Rattle.jsonptr_run_command.proofs.OperationWordsLemmas.{fault_first, fault_second}
+use Rattle.jsonptr_run_command.proofs.operations.check_two.Goals as goal
+
+pub returns-in_err-parse-clause-refused : goal.returns-in_err-parse-clause-refused
+returns-in_err-parse-clause-refused c =
+    let p = err_from_is_err_and c.from_residual.result c.from_residual.ensures.1 in
+    rw (p.1, p.2) (fault_first _ _ c.in_err-parse.field-0.0 c.in_err-parse.ensures.refused)
+
+pub returns-in_err-parse-2-clause-refused : goal.returns-in_err-parse-2-clause-refused
+returns-in_err-parse-2-clause-refused c =
+    let p = err_from_is_err_and c.from_residual-in_err-parse-2.result c.from_residual-in_err-parse-2.ensures.1 in
+    rw (p.1, p.2) (fault_second _ _ c.in_err-parse-2.field-0.0 (c.in_ok-parse.ensures.pointer.0 refl) c.in_err-parse-2.ensures.refused)

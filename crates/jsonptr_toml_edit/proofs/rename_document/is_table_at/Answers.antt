@@ -1,0 +1,15 @@
+use Rattle.toml.specs.View.{view}
+use Rattle.jsonptr.specs.TomlValue.{nodes}
+use Rattle.jsonptr.specs.Pointer.{tokens}
+use Rattle.jsonptr.specs.Resolve.{Refuses}
+use Rattle.jsonptr_text_step.proofs.RenameErrorLemmas.{no_object}
+use Rattle.jsonptr_toml_edit.proofs.RenamingLemmas.{table_there}
+use Rattle.jsonptr_toml_edit.proofs.rename_document.is_table_at.Goals as goal
+
+pub returns-in-Ok : goal.returns-in-Ok
+returns-in-Ok c = table_there (view c.args.document.now) (view c.in-Ok.value.now) (tokens c.args.pointer) c.is_table.result c.in-Ok.ensures.found c.is_table.ensures
+
+pub returns-in-Err-Refused : goal.returns-in-Err-Refused
+returns-in-Err-Refused c =
+    let refused : Refuses (nodes (view c.args.document.now)) (tokens c.args.pointer) c.in-Err-Refused.field-0-0 = rw c.in-Err-Refused.field-0-is at c.in-Err-Refused.ensures.refused in
+    no_object (nodes (view c.args.document.now)) (tokens c.args.pointer) c.in-Err-Refused.field-0-0 refused
