@@ -52,7 +52,7 @@ OTHERS = {
     ],
     "edits in text": [
         *((f"jsonptr_text_step/src/{it}.rt", [f"{it}_in_text"]) for it in EDITS),
-        ("jsonptr_text_step/src/find.rt", ["locate"]),
+        ("jsonptr_text_step/src/located.rt", ["locate"]),
     ],
     "one edit of a text": [("jsonptr_text_edit/src/text.rt", ["edit_text"])],
     "one edit of a text with comments": [
@@ -70,11 +70,11 @@ OTHERS = {
         *((f"jsonptr_comments_step/src/{it}.rt", [f"{it}_with_comments"]) for it in EDITS),
     ],
     "numbers that lose digits": [
-        ("jsonptr_text_digits/src/find.rt", ["find_lost"]),
+        ("jsonptr_text_digits/src/search.rt", ["find_lost"]),
         ("jsonptr_text_digits/src/kept.rt", ["is_kept"]),
         ("jsonptr_text_digits/src/exact.rt", ["read_exactly"]),
     ],
-    "layouts": [("jsonptr_text_relayout/src/layout.rt", ["relayout", "relayout_with_texts", "relayout_text"])],
+    "layouts": [("jsonptr_text_relayout/src/relayouts.rt", ["relayout", "relayout_with_texts", "relayout_text"])],
     "TOML text": [("jsonptr_toml/src/change.rt", ["resolve_in_toml", "assign_and_print_toml", "delete_and_print_toml"])],
     "edits in TOML text": [
         ("jsonptr_toml_edit/src/text.rt", ["edit_toml"]),

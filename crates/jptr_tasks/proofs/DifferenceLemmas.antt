@@ -22,7 +22,7 @@ use Rattle.jsonptr_patch.specs.declared.operation.Operation.TheVariants.{Add, Re
 use Rattle.jsonptr_patch_document.specs.Writing.{document_of, written_object}
 use Rattle.jsonptr_patch_document.specs.declared.error.PatchDocumentError.{PatchDocumentError}
 use Rattle.jsonptr_text_step.specs.PatchInText.{IsPatchError}
-use Rattle.jsonptr_text_step.specs.declared.edited.EditError.TheVariants as edit
+use Rattle.jsonptr_text_step.specs.declared.stepped.StepError.TheVariants as edit
 use Rattle.jptr_tasks.specs.Differences.{IsDifference, FailsToDiffer}
 use Rattle.jptr_tasks.specs.Inverting.{IsInverse}
 use Rattle.jptr_tasks.specs.PrivateResults.{IsPatchTextFault}

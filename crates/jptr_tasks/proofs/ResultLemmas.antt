@@ -25,7 +25,7 @@ use Rattle.jsonptr_text_edit.specs.declared.edited.Edited.TheVariants.{InPlace}
 use Rattle.jsonptr_text_edit.specs.declared.edit_error.EditError.{EditError}
 use Rattle.jsonptr_text_edit.specs.declared.edit_error.EditError.TheVariants as error
 use Rattle.jsonptr_io.specs.Lines.{IsOneLine}
-use Rattle.jsonptr_json_edits.specs.Spacing.{IsBlank}
+use Rattle.jsonptr_text_piece.specs.Spacing.{IsBlank}
 use Rattle.jsonptr_io.specs.Streams.{AppendsPrefix}
 use Rattle.jsonptr_text_paths.proofs.PlainLemmas.{plain_printed}
 use Rattle.jsonptr_patch.specs.declared.operation.Operation.{Operation}

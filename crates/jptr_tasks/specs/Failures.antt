@@ -6,8 +6,8 @@ use Rattle.jsonptr_value.specs.declared.from_text.ReadError.{ReadError}
 use Rattle.jsonptr_value.specs.declared.from_text.ReadError.TheVariants as unread
 use Rattle.jsonptr_text_resolve.specs.declared.resolve.InTextError.{InTextError}
 use Rattle.jsonptr_text_resolve.specs.declared.resolve.InTextError.TheVariants as in_text
-use Rattle.jsonptr_text_step.specs.declared.find.LocateError.{LocateError}
-use Rattle.jsonptr_text_step.specs.declared.find.LocateError.TheVariants as locate
+use Rattle.jsonptr_text_step.specs.declared.located.LocateError.{LocateError}
+use Rattle.jsonptr_text_step.specs.declared.located.LocateError.TheVariants as locate
 use Rattle.jsonptr_text_step.specs.declared.rename.RenameError.{RenameError}
 use Rattle.jsonptr_text_step.specs.declared.rename.RenameError.TheVariants as rename
 use Rattle.jsonptr_text_edit.specs.declared.edit_error.EditError.{EditError}

@@ -4,7 +4,7 @@ use Rattle.std.specs.Str.{IsUtf8}
 use Rattle.std.specs.declared.alloc.Global.{Global}
 use Rattle.jsonptr.specs.Text.{Text}
 use Rattle.jsonptr_io.specs.Lines.{IsOneLine}
-use Rattle.jsonptr_json_edits.specs.Spacing.{IsBlank}
+use Rattle.jsonptr_text_piece.specs.Spacing.{IsBlank}
 use Rattle.jptr_tasks.specs.Layouts.{CanBreak}
 use Rattle.jptr_tasks.specs.Results.{Yields, Fails}
 use Rattle.jptr_tasks.specs.declared.task_error.TaskError.{TaskError}

@@ -14,7 +14,7 @@ use Rattle.jsonptr_patch_document.specs.Document.{IsNoPatch}
 use Rattle.jsonptr_patch_document.specs.Writing.{document_of}
 use Rattle.jsonptr_text_step.specs.OneLine.{StaysOneLine}
 use Rattle.jsonptr_text_step.specs.PatchInText.{PatchesInText, IsPatchError}
-use Rattle.jsonptr_text_step.specs.declared.edited.EditError.TheVariants as edit
+use Rattle.jsonptr_text_step.specs.declared.stepped.StepError.TheVariants as edit
 use Rattle.jptr_tasks.specs.Layouts.{Lays}
 use Rattle.jptr_tasks.specs.declared.task_error.TaskError.{TaskError}
 use Rattle.jptr_tasks.specs.declared.task_error.TaskError.TheVariants.{NotPatch, PatchFailed, TooDeep, NotInPlace, PatchTooDeep, NotJson, Memory}

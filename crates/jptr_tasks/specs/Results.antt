@@ -16,7 +16,7 @@ use Rattle.jsonptr_text_resolve.specs.InText.{FindsInText, RefusesInText}
 use Rattle.jsonptr_text_step.specs.OneLine.{StaysOneLine}
 use Rattle.jsonptr_text_step.specs.Locating.{IsLocated}
 use Rattle.jsonptr_text_step.specs.PatchInText.{PatchesInText, PatchBytes, IsPatchError}
-use Rattle.jsonptr_text_step.specs.declared.edited.EditError.TheVariants as edit
+use Rattle.jsonptr_text_step.specs.declared.stepped.StepError.TheVariants as edit
 use Rattle.jsonptr_text_edit.specs.Edits.{EditsText, EditBytes}
 use Rattle.jsonptr_text_edit.specs.Errors.{IsEditError}
 use Rattle.jsonptr_text_edit.specs.declared.edit.Edit.{Edit}

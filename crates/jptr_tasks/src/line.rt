@@ -11,7 +11,7 @@ use crate::result::result_in_text_with;
 use crate::task::Task;
 use crate::task_error::TaskError;
 use jsonptr_io::write::write_bytes;
-use jsonptr_json_edits::spacing::are_blank;
+use jsonptr_text_piece::spacing::are_blank;
 use jsonptr_text_step::Buffers;
 use serde_json::Value;
 use simdutf8::basic::from_utf8;

@@ -10,9 +10,9 @@ use Rattle.jsonptr_comments.specs.Parts.{spelling, AreAllowed}
 use Rattle.jsonptr_comments.specs.declared.piece.Allowed.{Allowed}
 use Rattle.jsonptr_comments.specs.declared.piece.Allowed.TheVariants.{Any, NoComment, Blank}
 use Rattle.jsonptr_comments.proofs.PartLemmas.{one_after, text_of_pieces, no_comments}
-use Rattle.jsonptr_json_edits.specs.Spacing.{IsBlank, IsSpaced}
-use Rattle.jsonptr_json_edits.specs.Child.{IsChildText, IsValueText, HaveOneComma, child_value}
-use Rattle.jsonptr_json_edits.specs.PrivateChild.{IsCutChild}
+use Rattle.jsonptr_text_piece.specs.Spacing.{IsBlank, IsSpaced}
+use Rattle.jsonptr_text_check.specs.Child.{IsChildText, IsValueText, HaveOneComma, child_value}
+use Rattle.jsonptr_text_check.specs.PrivateChild.{IsCutChild}
 use Rattle.jsonptr_text_step.specs.Placing.{IsAt}
 use Rattle.jsonptr_text_step.specs.Locating.{IsLocated}
 use Rattle.jsonptr_comments_step.specs.Edits.{IsScalarText, IsOneEdit, IsRenaming}

@@ -11,7 +11,7 @@ use Rattle.jsonptr.specs.Pointer.{tokens}
 use Rattle.jsonptr.specs.Resolve.{PutsAt}
 use Rattle.jsonptr.specs.declared.pointer.Pointer.{Pointer}
 use Rattle.jsonptr_text_resolve.specs.InText.{FindsInText}
-use Rattle.jsonptr_json_edits.specs.declared.value_text.ValueText.{ValueText}
+use Rattle.jsonptr_text_layout.specs.declared.value_text.ValueText.{ValueText}
 use Rattle.jsonptr_comments.specs.Comments.{IsWithoutComments}
 use Rattle.jsonptr_patch.specs.Operating.{IsProperPrefix}
 use Rattle.jsonptr_patch.specs.declared.operation.Operation.{Operation}

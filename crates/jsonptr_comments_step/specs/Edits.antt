@@ -6,8 +6,8 @@ use Rattle.jsonptr.specs.Text.{Text}
 use Rattle.jsonptr_comments.specs.Comments.{Piece, other, Pieces, IsWithoutComments}
 use Rattle.jsonptr_comments.specs.Parts.{spelling, comments_of, AreAllowed}
 use Rattle.jsonptr_comments.specs.declared.piece.Allowed.TheVariants.{NoBreak, Blank}
-use Rattle.jsonptr_json_edits.specs.Child.{IsOneChild, IsValueText, value_part}
-use Rattle.jsonptr_json_edits.specs.Spacing.{IsSpaced}
+use Rattle.jsonptr_text_check.specs.Child.{IsOneChild, IsValueText, value_part}
+use Rattle.jsonptr_text_piece.specs.Spacing.{IsSpaced}
 use Rattle.jsonptr_text_step.specs.Placing.{IsAt}
 
 -- `IsLaidOut new made`: without its comments, the text `made` has the tokens of the text `new`, one for one

@@ -7,7 +7,7 @@ use Rattle.jsonptr_comments.specs.Comments.{Piece, Pieces}
 use Rattle.jsonptr_comments.specs.Parts.{spelling, AreAllowed}
 use Rattle.jsonptr_comments.specs.declared.piece.Allowed.{Allowed}
 use Rattle.jsonptr_comments.specs.declared.piece.Allowed.TheVariants.{Any, NoComment, NoBreak}
-use Rattle.jsonptr_json_edits.specs.Child.{IsChildText, HaveOneComma, child_value}
+use Rattle.jsonptr_text_check.specs.Child.{IsChildText, HaveOneComma, child_value}
 use Rattle.jsonptr_text_step.specs.Placing.{IsAt}
 use Rattle.jsonptr_comments_step.specs.Edits.{IsCommaOrNone, IsScalarText, IsChange, IsNameOf}
 

@@ -4,13 +4,15 @@
 use crate::change::{Change, Comma, Kind};
 use crate::gap::{end_before, gap_of};
 use crate::texts::Texts;
-use jsonptr_json_edits::layout::{Container, Piece, slice};
-use jsonptr_json_edits::locate::{Extent, Span};
+use jsonptr_text_layout::layout::Container;
+use jsonptr_text_piece::child::Child;
+use jsonptr_text_piece::piece::Piece;
+use jsonptr_text_piece::span::{Span, slice};
 use std::alloc::{AllocError, Global};
 
 /// A new child, as it comes into the text without comments.
 #[derive(Clone, Copy, Debug)]
-struct NewChild<'t> {
+struct PieceParts<'t> {
     /// Its name, if it is a member.
     name: &'t str,
     /// What is between the name and the value.
@@ -21,26 +23,26 @@ struct NewChild<'t> {
     space: &'t str,
 }
 
-impl<'t> NewChild<'t> {
+impl<'t> PieceParts<'t> {
     /// Returns the child of the piece with this white space, with comments in the array or object or not.
     ///
     /// Where a sibling has comments, the edit without comments copies white space that is as long.
-    fn of(piece: &'t Piece, space: &'t str, is_commented: bool) -> NewChild<'t> {
+    fn of(piece: &'t Piece, space: &'t str, is_commented: bool) -> PieceParts<'t> {
         let text = piece.text.as_str();
-        let field = slice(text, piece.child.child.from, piece.child.value);
+        let field = slice(text, piece.child.span.from, piece.child.value);
         let name_end = match field.rfind('"') {
             Some(quote) => quote.saturating_add(1),
             None => 0,
         };
         let colon = slice(field, name_end, field.len());
-        NewChild {
+        PieceParts {
             name: slice(field, 0, name_end),
             colon: if is_commented && colon.len() > 2 {
                 ": "
             } else {
                 colon
             },
-            value: slice(text, piece.child.value, piece.child.child.to),
+            value: slice(text, piece.child.value, piece.child.span.to),
             space: if is_commented {
                 from_last_break(space)
             } else {
@@ -63,9 +65,9 @@ fn from_last_break(space: &str) -> &str {
     slice(space, start, space.len())
 }
 
-/// A location of a new child.
+/// A insertion of a new child.
 #[derive(Clone, Copy, Debug)]
-struct Location {
+struct Insertion {
     /// A comma that comes before it.
     comma: Comma,
     /// What is replaced.
@@ -91,26 +93,26 @@ pub fn addition(
         return first(alloc, texts, container, piece);
     };
     let Some(next) = container.children.get(position) else {
-        let child = NewChild::of(piece, space_before(piece), is_commented);
+        let child = PieceParts::of(piece, space_before(piece), is_commented);
         return append(alloc, texts, container, *last, child);
     };
-    let child = NewChild::of(piece, space_after(piece), is_commented);
+    let child = PieceParts::of(piece, space_after(piece), is_commented);
     let gap = Span {
         from: end_before(container, position),
-        to: next.child.from,
+        to: next.span.from,
     };
     insert(alloc, texts, gap, child)
 }
 
 /// Returns the white space between the comma before the child of the piece and the child.
 fn space_before(piece: &Piece) -> &str {
-    after_comma(slice(piece.text.as_str(), 0, piece.child.child.from))
+    after_comma(slice(piece.text.as_str(), 0, piece.child.span.from))
 }
 
 /// Returns the white space after the comma after the child of the piece.
 fn space_after(piece: &Piece) -> &str {
     let text = piece.text.as_str();
-    after_comma(slice(text, piece.child.child.to, text.len()))
+    after_comma(slice(text, piece.child.span.to, text.len()))
 }
 
 /// Returns what is after the comma, or an empty text if there is none.
@@ -127,10 +129,10 @@ fn append(
     alloc: Global,
     texts: Texts<'_>,
     container: Container<'_>,
-    last: Extent,
-    new: NewChild<'_>,
+    last: Child,
+    new: PieceParts<'_>,
 ) -> Result<Change, AllocError> {
-    let from = last.child.to;
+    let from = last.span.to;
     let gap = gap_of(texts.text, from, container.span.to.saturating_sub(1));
     let is_over_lines = new.space.contains('\n');
     if gap.has_line_comment && !is_over_lines {
@@ -150,13 +152,13 @@ fn append(
             )
         }
         None => if is_over_lines && gap.tail > from {
-            let location = Location {
+            let insertion = Insertion {
                 comma: Comma::Put(from),
                 replaced: empty(gap.tail),
             };
             put(
                 alloc,
-                location,
+                insertion,
                 &[new.space, new.name, new.colon, new.value],
             )
         } else {
@@ -175,7 +177,7 @@ fn insert(
     alloc: Global,
     texts: Texts<'_>,
     span: Span,
-    new: NewChild<'_>,
+    new: PieceParts<'_>,
 ) -> Result<Change, AllocError> {
     let gap = gap_of(texts.text, span.from, span.to);
     if gap.ends_line {
@@ -227,7 +229,7 @@ fn first(
     let from = container.span.from.saturating_add(1);
     let to = container.span.to.saturating_sub(1);
     let text = piece.text.as_str();
-    let child = piece.child.child;
+    let child = piece.child.span;
     let lead = slice(text, 0, child.from);
     let body = slice(text, child.from, child.to);
     let trail = slice(text, child.to, text.len());
@@ -252,28 +254,28 @@ fn empty(offset: usize) -> Span {
     }
 }
 
-/// Returns the location at the offset.
-fn at(offset: usize) -> Location {
+/// Returns the insertion at the offset.
+fn at(offset: usize) -> Insertion {
     replacing(offset, offset)
 }
 
-/// Returns the location instead of what is between the offsets.
-fn replacing(from: usize, to: usize) -> Location {
-    Location {
+/// Returns the insertion instead of what is between the offsets.
+fn replacing(from: usize, to: usize) -> Insertion {
+    Insertion {
         comma: Comma::Same,
         replaced: Span { from, to },
     }
 }
 
-/// Returns the change that puts the texts to the location, one after another.
-fn put(alloc: Global, location: Location, parts: &[&str]) -> Result<Change, AllocError> {
+/// Returns the change that puts the texts to the insertion, one after another.
+fn put(alloc: Global, insertion: Insertion, parts: &[&str]) -> Result<Change, AllocError> {
     let mut piece = String::new(alloc);
     for part in parts {
         piece.push_str(*part)?;
     }
     Ok(Change {
-        comma: location.comma,
-        replaced: location.replaced,
+        comma: insertion.comma,
+        replaced: insertion.replaced,
         kind: Kind::Space,
         piece,
     })

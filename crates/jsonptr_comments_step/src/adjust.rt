@@ -3,11 +3,12 @@
 
 use crate::add::addition;
 use crate::change::{Change, Comma, Kind};
-use crate::child::Child;
+use crate::child::CommentedChild;
 use crate::remove::removal;
 use crate::texts::Texts;
-use jsonptr_json_edits::layout::{Container, slice};
-use jsonptr_text_step::plan::{Added, Plan, Removed, Replaced};
+use jsonptr_text_layout::layout::Container;
+use jsonptr_text_piece::span::slice;
+use jsonptr_text_step::plan::{AddedChild, Plan, RemovedChild, ReplacedValue};
 use std::alloc::{AllocError, Global};
 
 /// Returns the change of the text with comments that does what was done to the text without them, or `None` if
@@ -27,8 +28,8 @@ pub fn adjusted(alloc: Global, texts: Texts<'_>, plan: Plan) -> Result<Option<Ch
 }
 
 /// Returns the change that replaces a value.
-fn replacing(replaced: Replaced) -> Change {
-    let Replaced {
+fn replacing(replaced: ReplacedValue) -> Change {
+    let ReplacedValue {
         value,
         depth,
         piece,
@@ -42,7 +43,7 @@ fn replacing(replaced: Replaced) -> Change {
 }
 
 /// Returns the change that adds a child.
-fn adding(alloc: Global, texts: Texts<'_>, added: &Added) -> Result<Change, AllocError> {
+fn adding(alloc: Global, texts: Texts<'_>, added: &AddedChild) -> Result<Change, AllocError> {
     let container = Container {
         text: texts.bare,
         span: added.container,
@@ -55,12 +56,12 @@ fn adding(alloc: Global, texts: Texts<'_>, added: &Added) -> Result<Change, Allo
 fn removing(
     alloc: Global,
     texts: Texts<'_>,
-    removed: Removed,
+    removed: RemovedChild,
 ) -> Result<Option<Change>, AllocError> {
     if removed.others > 0 {
         return Ok(None);
     }
-    let Removed {
+    let RemovedChild {
         container,
         children,
         position,
@@ -72,7 +73,7 @@ fn removing(
         span: container,
         children: children.as_slice(),
     };
-    let Some(extent) = there.children.get(position) else {
+    let Some(child) = there.children.get(position) else {
         return Ok(None);
     };
     let Some(removal) = removal(texts, there, position) else {
@@ -82,8 +83,8 @@ fn removing(
     Ok(Some(Change {
         comma: removal.comma,
         replaced: removal.span,
-        kind: Kind::Child(Child {
-            extent: *extent,
+        kind: Kind::Child(CommentedChild {
+            at: *child,
             key,
             kept,
         }),

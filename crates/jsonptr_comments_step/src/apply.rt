@@ -12,7 +12,7 @@ ghost use Rattle.jsonptr_comments_step.specs.PrivateStepping.{IsPatched};
 use crate::operate::operate;
 use crate::texts::{TextsBuf, has_bare};
 use jsonptr_comments::CommentedText;
-use jsonptr_json_edits::buffers::Buffers;
+use jsonptr_text_piece::buffers::Buffers;
 use jsonptr_text_resolve::is_document;
 use jsonptr_text_step::RawOperation;
 use std::alloc::AllocError;

@@ -12,7 +12,7 @@ use crate::step::take_commented_step;
 use crate::texts::{Texts, TextsBuf, has_bare};
 use jsonptr::Pointer;
 use jsonptr_comments::CommentedText;
-use jsonptr_json_edits::buffers::Buffers;
+use jsonptr_text_piece::buffers::Buffers;
 use jsonptr_text_step::{RawValue, Step};
 use std::alloc::AllocError;
 

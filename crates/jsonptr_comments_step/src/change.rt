@@ -5,13 +5,13 @@ ghost use Rattle.jsonptr_comments.specs.Comments.{IsWithoutComments};
 ghost use Rattle.jsonptr_comments_step.specs.Edits.{IsOneEdit};
 ghost use Rattle.jsonptr_comments_step.specs.PrivateChecking.{IsChanged};
 
-use crate::child::{Child, is_removal};
+use crate::child::{CommentedChild, is_removal};
 use crate::draft::{Draft, is_addition, is_framed};
 use crate::texts::Texts;
 use crate::value::is_replacement;
 use jsonptr::Pointer;
-use jsonptr_json_edits::buffers::Buffers;
-use jsonptr_json_edits::locate::Span;
+use jsonptr_text_piece::buffers::Buffers;
+use jsonptr_text_piece::span::Span;
 use std::alloc::{AllocError, Global};
 
 /// A comma that comes or goes. The offset is one of the text before the change.
@@ -33,7 +33,7 @@ pub enum Kind {
     /// A value, to which as many tokens of the pointer lead.
     Value(usize),
     /// A child, which is removed, and what is beside it.
-    Child(Child),
+    Child(CommentedChild),
 }
 
 /// A change of a text.
@@ -129,21 +129,21 @@ fn joined(
     added: &str,
     change: &Change,
 ) -> Result<Option<String>, AllocError> {
-    let Some(cuts) = cuts_of(text, comma, change.replaced) else {
+    let Some(rest) = rest_of(text, comma, change.replaced) else {
         return Ok(None);
     };
     let mut made = String::new(alloc);
-    made.push_str(cuts.before)?;
+    made.push_str(rest.before)?;
     made.push_str(added)?;
-    made.push_str(cuts.between)?;
+    made.push_str(rest.between)?;
     made.push_str(change.piece.as_str())?;
-    made.push_str(cuts.after)?;
+    made.push_str(rest.after)?;
     Ok(Some(made))
 }
 
 /// A text that is cut at four offsets, without what is replaced. It borrows the text.
 #[derive(Clone, Copy, Debug)]
-struct Cuts<'t> {
+struct Rest<'t> {
     before: &'t str,
     between: &'t str,
     after: &'t str,
@@ -160,14 +160,14 @@ fn span_of(comma: Comma, offset: usize) -> (Span, &'static str) {
     (Span { from, to }, added)
 }
 
-/// Cuts the text at the ends of both spans. Returns `None` if these are not in order, or not between
+/// Rest the text at the ends of both spans. Returns `None` if these are not in order, or not between
 /// characters.
-fn cuts_of(text: &str, comma: Span, replaced: Span) -> Option<Cuts<'_>> {
+fn rest_of(text: &str, comma: Span, replaced: Span) -> Option<Rest<'_>> {
     let (before, rest) = text.split_at_checked(comma.from)?;
     let (_, rest) = rest.split_at_checked(comma.to.checked_sub(comma.from)?)?;
     let (between, rest) = rest.split_at_checked(replaced.from.checked_sub(comma.to)?)?;
     let (_, after) = rest.split_at_checked(replaced.to.checked_sub(replaced.from)?)?;
-    Some(Cuts {
+    Some(Rest {
         before,
         between,
         after,

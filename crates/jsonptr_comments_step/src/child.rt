@@ -7,17 +7,18 @@ use crate::draft::Draft;
 use crate::part::{Part, is_one_run, is_run};
 use crate::value::{find_value, is_at};
 use jsonptr_comments::piece::Allowed;
-use jsonptr_json_edits::buffers::Buffers;
-use jsonptr_json_edits::child::{have_one_comma, one_child};
-use jsonptr_json_edits::locate::{Extent, Span};
-use jsonptr_json_edits::spacing::is_space;
+use jsonptr_text_check::one_child::{have_one_comma, one_child};
+use jsonptr_text_piece::buffers::Buffers;
+use jsonptr_text_piece::child::Child;
+use jsonptr_text_piece::spacing::is_space;
+use jsonptr_text_piece::span::Span;
 use std::alloc::AllocError;
 
 /// A child that is removed.
 #[derive(Debug, Drop)]
-pub struct Child {
+pub struct CommentedChild {
     /// Where it is in the text.
-    pub extent: Extent,
+    pub at: Child,
     /// Its key, if it is a member.
     pub key: Option<String>,
     /// What stays after it. The comments between it and this go with it.
@@ -33,13 +34,13 @@ pub struct Child {
 pub fn is_removal(
     buffers: &mut Buffers,
     draft: &Draft<'_>,
-    child: &Child,
+    child: &CommentedChild,
 ) -> Result<bool, AllocError>
     ensures { IfOk result (λ b. IsTrue b → IsChanged draft.now.bare.now (tokens draft.now.pointer)
         draft.now.text.now draft.now.replaced.from draft.now.replaced.to
         draft.now.made.now draft.now.new.from draft.now.new.to) }
 {
-    if !are_runs(draft, child.extent.child, child.kept) {
+    if !are_runs(draft, child.at.span, child.kept) {
         return Ok(false);
     }
     is_child_at(buffers, draft, child)
@@ -99,11 +100,15 @@ fn are_runs(draft: &Draft<'_>, child: Span, kept: Span) -> bool
 }
 
 /// Returns whether the text without comments has the child there, to whose value the pointer leads.
-fn is_child_at(buffers: &mut Buffers, draft: &Draft<'_>, child: &Child) -> Result<bool, AllocError>
+fn is_child_at(
+    buffers: &mut Buffers,
+    draft: &Draft<'_>,
+    child: &CommentedChild,
+) -> Result<bool, AllocError>
     ensures { IfOk result (λ b. IsTrue b → IsChildAt draft.now.bare.now (tokens draft.now.pointer)
-        draft.now.replaced.from child.now.extent.child.from child.now.extent.child.to draft.now.replaced.to) }
+        draft.now.replaced.from child.now.at.span.from child.now.at.span.to draft.now.replaced.to) }
 {
-    let Some(cut) = cut_around(draft.bare, draft.replaced, child.extent.child) else {
+    let Some(cut) = cut_around(draft.bare, draft.replaced, child.at.span) else {
         return Ok(false);
     };
     if !have_one_comma(cut.lead, cut.trail) {
@@ -115,8 +120,8 @@ fn is_child_at(buffers: &mut Buffers, draft: &Draft<'_>, child: &Child) -> Resul
     let Some(located) = find_value(buffers, draft.bare, draft.pointer)? else {
         return Ok(false);
     };
-    let from = child.extent.child.to.saturating_sub(value.len());
-    let to = child.extent.child.to;
+    let from = child.at.span.to.saturating_sub(value.len());
+    let to = child.at.span.to;
     Ok(is_at(&located, Span { from, to }))
 }
 
@@ -153,22 +158,22 @@ fn cut_around(text: &str, all: Span, child: Span) -> Option<ChildCut<'_>>
 fn value_of<'t>(
     buffers: &mut Buffers,
     text: &'t str,
-    child: &Child,
+    child: &CommentedChild,
 ) -> Result<Option<&'t str>, AllocError>
     ensures { IfOk result (λ found. IfSome found (λ value. IsExactChild text.entry.now value.now)) }
 {
-    let extent = Extent {
-        child: Span {
+    let at = Child {
+        span: Span {
             from: 0,
             to: text.len(),
         },
-        value: child.extent.value.saturating_sub(child.extent.child.from),
+        value: child.at.value.saturating_sub(child.at.span.from),
     };
     let key = match &child.key {
         Some(key) => Some(key.as_str()),
         None => None,
     };
-    let Some(parts) = one_child(buffers, text, extent, key, None)? else {
+    let Some(parts) = one_child(buffers, text, at, key, None)? else {
         return Ok(None);
     };
     if parts.trail.is_empty() && begins_child(text) {

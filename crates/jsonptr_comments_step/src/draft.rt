@@ -7,7 +7,7 @@ ghost use Rattle.jsonptr_comments.specs.declared.piece.Allowed.TheVariants.{NoCo
 use crate::part::{Part, is_comma_or_none, is_one_run, is_run};
 use jsonptr::Pointer;
 use jsonptr_comments::piece::Allowed;
-use jsonptr_json_edits::locate::Span;
+use jsonptr_text_piece::span::Span;
 
 /// A text, the same text after an edit, and where they differ. It borrows the texts.
 #[derive(Clone, Copy, Debug)]

@@ -1,7 +1,8 @@
 //! What is between two children of an array or an object: white space, comments, and a comma. These are
 //! hints: no contract says that they are right.
 
-use jsonptr_json_edits::layout::{Container, slice};
+use jsonptr_text_layout::layout::Container;
+use jsonptr_text_piece::span::slice;
 
 /// What is between two offsets of a text, before, between or after children.
 #[derive(Clone, Copy, Debug)]
@@ -48,7 +49,7 @@ pub fn end_before(container: Container<'_>, position: usize) -> usize {
         .checked_sub(1)
         .and_then(|index| container.children.get(index));
     match before {
-        Some(child) => child.child.to,
+        Some(child) => child.span.to,
         None => container.span.from.saturating_add(1),
     }
 }

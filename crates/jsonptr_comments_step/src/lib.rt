@@ -42,7 +42,7 @@ mod operate;
 mod part;
 mod remove;
 mod rename;
-mod same;
+mod same_tokens;
 mod step;
 mod texts;
 mod value;

@@ -9,10 +9,10 @@ use crate::draft::{Draft, has_new_run, has_same_tail};
 use crate::part::{Part, is_one_run, is_run};
 use crate::value::find_value;
 use jsonptr_comments::piece::Allowed;
-use jsonptr_json_edits::buffers::Buffers;
-use jsonptr_json_edits::child::is_name;
-use jsonptr_json_edits::locate::Span;
-use jsonptr_json_edits::spacing::is_colon;
+use jsonptr_text_check::one_child::is_name;
+use jsonptr_text_piece::buffers::Buffers;
+use jsonptr_text_piece::spacing::is_colon;
+use jsonptr_text_piece::span::Span;
 use std::alloc::AllocError;
 
 /// Returns whether what is replaced is the name of the member to whose value the pointer leads, and no comment

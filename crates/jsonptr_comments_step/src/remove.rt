@@ -4,8 +4,8 @@
 use crate::change::Comma;
 use crate::gap::{Gap, end_before, gap_of};
 use crate::texts::Texts;
-use jsonptr_json_edits::layout::{self, Container, slice};
-use jsonptr_json_edits::locate::Span;
+use jsonptr_text_layout::layout::{self, Container};
+use jsonptr_text_piece::span::{Span, slice};
 
 /// A child, and what is around it.
 #[derive(Clone, Copy, Debug)]
@@ -29,7 +29,7 @@ struct Around<'t> {
 
 /// What goes from a text with comments.
 #[derive(Clone, Copy, Debug)]
-pub struct Removed {
+pub struct Removal {
     /// A comma that goes, too.
     pub comma: Comma,
     /// The child, and what goes with it.
@@ -40,12 +40,12 @@ pub struct Removed {
 }
 
 /// Returns what is removed with the child at the position, or `None` if that is not clear.
-pub fn removal(texts: Texts<'_>, container: Container<'_>, position: usize) -> Option<Removed> {
+pub fn removal(texts: Texts<'_>, container: Container<'_>, position: usize) -> Option<Removal> {
     let children = container.children;
-    let child = children.get(position)?.child;
+    let child = children.get(position)?.span;
     let from = end_before(container, position);
     let to = match children.get(position.saturating_add(1)) {
-        Some(next) => next.child.from,
+        Some(next) => next.span.from,
         None => container.span.to.saturating_sub(1),
     };
     let around = Around {
@@ -71,20 +71,20 @@ impl<'t> Around<'t> {
     }
 
     /// Returns the removal of the span, without a comma elsewhere.
-    fn alone(&self, span: Span) -> Option<Removed> {
+    fn alone(&self, span: Span) -> Option<Removal> {
         Some(self.whole(Comma::Same, span))
     }
 
     /// Returns the removal of the whole span, and of the comma. The comments on the line of the child, after it,
     /// go with it.
-    fn whole(&self, comma: Comma, span: Span) -> Removed {
+    fn whole(&self, comma: Comma, span: Span) -> Removal {
         let end = self.after.tail.min(span.to);
         let kept = Span { from: end, to: end };
-        Removed { comma, span, kept }
+        Removal { comma, span, kept }
     }
 
     /// Returns what is removed.
-    fn removal(&self) -> Option<Removed> {
+    fn removal(&self) -> Option<Removal> {
         if self.is_first && self.is_last && self.owns_all() {
             return self.alone(self.all);
         }
@@ -120,7 +120,7 @@ impl<'t> Around<'t> {
     /// Returns the removal of a child whose comma is on a later line. The comma before the child goes
     /// instead. If there is none, what is between the line of the child and its comma stays, if that has
     /// comments.
-    fn before_later_comma(&self, comma: usize) -> Option<Removed> {
+    fn before_later_comma(&self, comma: usize) -> Option<Removal> {
         if self.is_first {
             return self.first_before(comma);
         }
@@ -134,7 +134,7 @@ impl<'t> Around<'t> {
     }
 
     /// Returns the removal of the first child, and of the comma at the offset, which is on a later line.
-    fn first_before(&self, comma: usize) -> Option<Removed> {
+    fn first_before(&self, comma: usize) -> Option<Removal> {
         let span = Span {
             from: self.child.from,
             to: self.next_after(comma),
@@ -152,7 +152,7 @@ impl<'t> Around<'t> {
             to: span.to,
         };
         let comma = Comma::Same;
-        Some(Removed { comma, span, kept })
+        Some(Removal { comma, span, kept })
     }
 
     /// Returns the offset of the comma before the child, if only white space is between them.
@@ -212,7 +212,7 @@ impl<'t> Around<'t> {
     }
 
     /// Returns the removal of the line of the child, which begins at the offset.
-    fn line(&self, start: usize) -> Option<Removed> {
+    fn line(&self, start: usize) -> Option<Removal> {
         let span = self.line_from(start);
         if !self.is_last || self.is_first || self.after.comma.is_some() {
             return self.alone(span);
@@ -221,7 +221,7 @@ impl<'t> Around<'t> {
     }
 
     /// Returns the removal of the last child, which shares a line with others.
-    fn last(&self) -> Option<Removed> {
+    fn last(&self) -> Option<Removal> {
         let to = self.after.tail;
         let from = self.space_start();
         if self.is_first || self.after.comma.is_some() {
@@ -236,7 +236,7 @@ impl<'t> Around<'t> {
     }
 
     /// Returns the removal of a child that is not the last one, and shares a line with others.
-    fn not_last(&self) -> Option<Removed> {
+    fn not_last(&self) -> Option<Removal> {
         let comma = self.after.comma?;
         if self.after.ends_line {
             return self.alone(self.line_from(self.space_start()));

@@ -9,15 +9,15 @@ ghost use Rattle.jsonptr_comments_step.specs.PrivateStepping.{IsRenamedAs};
 
 use crate::draft::Draft;
 use crate::name::is_renaming;
-use crate::same::have_same_tokens;
+use crate::same_tokens::have_same_tokens;
 use crate::step::bare_of;
 use crate::texts::{Texts, has_bare};
 use jsonptr::Pointer;
 use jsonptr_comments::CommentedText;
-use jsonptr_json_edits::buffers::Buffers;
-use jsonptr_json_edits::cut::{cut_at, splice};
-use jsonptr_json_edits::locate::Span;
-use jsonptr_text_step::plan::{Made, Plan, Renamed};
+use jsonptr_text_piece::buffers::Buffers;
+use jsonptr_text_piece::cut::{cut_at, splice};
+use jsonptr_text_piece::span::Span;
+use jsonptr_text_step::plan::{Made, Plan, RenamedMember};
 use jsonptr_text_step::{Step, take_step};
 use std::alloc::AllocError;
 
@@ -158,7 +158,7 @@ fn with_name(
     buffers: &mut Buffers,
     texts: Texts<'_>,
     pointer: Pointer<'_>,
-    renamed: &Renamed,
+    renamed: &RenamedMember,
 ) -> Result<Option<String>, AllocError>
     requires { IsWithoutComments texts.text.now texts.bare.now }
     ensures { IfOk result (λ made. IfSome made (λ s.

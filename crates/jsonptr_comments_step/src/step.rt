@@ -7,11 +7,11 @@ ghost use Rattle.jsonptr_comments_step.specs.PrivateStepping.{step_tokens, IsSte
 
 use crate::adjust::adjusted;
 use crate::change::changed;
-use crate::same::have_same_tokens;
+use crate::same_tokens::have_same_tokens;
 use crate::texts::{Texts, TextsBuf};
 use jsonptr::{Fault, Pointer};
 use jsonptr_comments::without_comments;
-use jsonptr_json_edits::buffers::Buffers;
+use jsonptr_text_piece::buffers::Buffers;
 use jsonptr_text_step::plan::Made;
 use jsonptr_text_step::{Step, take_step};
 use std::alloc::{AllocError, Global};

@@ -9,8 +9,8 @@ use crate::draft::{Draft, has_new_run};
 use crate::part::{Part, is_run};
 use jsonptr::Pointer;
 use jsonptr_comments::piece::Allowed;
-use jsonptr_json_edits::buffers::Buffers;
-use jsonptr_json_edits::locate::Span;
+use jsonptr_text_piece::buffers::Buffers;
+use jsonptr_text_piece::span::Span;
 use jsonptr_text_step::{LocateError, Located, locate};
 use std::alloc::AllocError;
 

@@ -6,8 +6,8 @@ ghost use Rattle.jsonptr_text_digits.specs.Digits.{KeepsDigits};
 ghost use Rattle.jsonptr_text_digits.specs.Exact.{IsExactError, exact_of_read};
 ghost use Rattle.jsonptr_text_digits.specs.declared.exact.ExactError.TheVariants.{Memory};
 
-use crate::find::find_lost;
 use crate::lost::Lost;
+use crate::search::find_lost;
 use jsonptr_value::ReadError;
 use serde_json::Value;
 use std::alloc::{AllocError, Global};

@@ -20,14 +20,14 @@
 
 mod digits;
 mod exact;
-mod find;
+mod first_lost;
 mod kept;
 pub mod laws;
 mod lost;
 mod normal;
-mod path;
+mod search;
 
 pub use exact::{ExactError, read_exactly};
-pub use find::find_lost;
 pub use kept::is_kept;
 pub use lost::Lost;
+pub use search::find_lost;

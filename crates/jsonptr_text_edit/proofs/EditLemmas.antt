@@ -18,9 +18,9 @@ use Rattle.jsonptr_text_step.specs.Bytes.{KeepsBytes}
 use Rattle.jsonptr_text_step.specs.EditInText.{IsAssignError}
 use Rattle.jsonptr_text_step.specs.PatchInText.{IsPatchError}
 use Rattle.jsonptr_text_step.specs.Renaming.{IsRenameError}
-use Rattle.jsonptr_text_step.specs.declared.edited.Edited.{Edited as Made}
-use Rattle.jsonptr_text_step.specs.declared.edited.EditError.{EditError as KindError}
-use Rattle.jsonptr_text_step.specs.declared.edited.EditError.TheVariants as kind
+use Rattle.jsonptr_text_step.specs.declared.stepped.Stepped.{Stepped as Made}
+use Rattle.jsonptr_text_step.specs.declared.stepped.StepError.{StepError as KindError}
+use Rattle.jsonptr_text_step.specs.declared.stepped.StepError.TheVariants as kind
 use Rattle.jsonptr_text_step.specs.declared.rename.RenameError.{RenameError}
 use Rattle.jsonptr_text_edit.specs.Edited.{IfInPlace}
 use Rattle.jsonptr_text_edit.specs.Edits.{EditsText}

@@ -17,8 +17,8 @@ use Rattle.jsonptr_patch.specs.declared.operation.Operation.TheVariants.{Add, Re
 use Rattle.jsonptr_patch_document.specs.Same.{IsSameOperation, AreSameOperations}
 use Rattle.jsonptr_patch_document.proofs.SameLemmas.{same_effects}
 use Rattle.jsonptr_text_step.specs.PatchInText.{PatchesInText, IsPatchError}
-use Rattle.jsonptr_text_step.specs.declared.edited.EditError.{EditError as KindError}
-use Rattle.jsonptr_text_step.specs.declared.edited.EditError.TheVariants as kind
+use Rattle.jsonptr_text_step.specs.declared.stepped.StepError.{StepError as KindError}
+use Rattle.jsonptr_text_step.specs.declared.stepped.StepError.TheVariants as kind
 
 -- what holds of two pointers, or of a pointer and a value, holds of the same ones
 both : {A B : Type 0} (P : A → B → Type 0) (a b : A) (v w : B) → a ≡ b → v ≡ w → P a v → P b w

@@ -1,7 +1,7 @@
 -- Words of private clauses: the error of an edit by its kind.
 use Rattle.jsonptr.specs.declared.assign.Error.{Error as AssignError}
-use Rattle.jsonptr_text_step.specs.declared.edited.EditError.{EditError as KindError}
-use Rattle.jsonptr_text_step.specs.declared.edited.EditError.TheVariants as kind
+use Rattle.jsonptr_text_step.specs.declared.stepped.StepError.{StepError as KindError}
+use Rattle.jsonptr_text_step.specs.declared.stepped.StepError.TheVariants as kind
 use Rattle.jsonptr_text_step.specs.declared.rename.RenameError.{RenameError}
 use Rattle.jsonptr_patch.specs.declared.failed_operation.FailedOperation.{FailedOperation}
 use Rattle.jsonptr_value.specs.declared.from_text.ReadError.{ReadError}

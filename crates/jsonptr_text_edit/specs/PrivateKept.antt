@@ -1,7 +1,7 @@
 -- Words of private clauses: an edit in place that is kept.
 use Rattle.std.specs.Prelude.{◌≡◌, ⊤}
-use Rattle.jsonptr_text_step.specs.declared.edited.Edited.{Edited as Made}
-use Rattle.jsonptr_text_step.specs.declared.edited.Edited.TheVariants as made
+use Rattle.jsonptr_text_step.specs.declared.stepped.Stepped.{Stepped as Made}
+use Rattle.jsonptr_text_step.specs.declared.stepped.Stepped.TheVariants as made
 use Rattle.jsonptr_text_edit.specs.declared.edited.Edited.{Edited}
 use Rattle.jsonptr_text_edit.specs.declared.edited.Edited.TheVariants.{InPlace, Reprinted}
 

@@ -11,7 +11,7 @@ use jsonptr::Fault;
 use jsonptr_patch::{FailedOperation, Operation};
 use jsonptr_patch_document::laws::patch_document_law;
 use jsonptr_patch_document::read_patch;
-use jsonptr_text_step as in_text;
+use jsonptr_text_step as text_step;
 use jsonptr_text_value::PatchText;
 use std::alloc::{AllocError, Global};
 
@@ -27,7 +27,7 @@ pub fn apply_and_print(alloc: Global, text: &str, patch: &PatchText) -> Result<S
         (FailsToPatch text.now (operations_in patch.now.operations.items)) }
 {
     let operations = operations_of(alloc, patch)?;
-    match in_text::apply_and_print(alloc, text, operations) {
+    match text_step::apply_and_print(alloc, text, operations) {
         Ok(new) => Ok(new),
         Err(error) => Err(patch_error(error)),
     }
@@ -52,13 +52,13 @@ fn operations_of(alloc: Global, patch: &PatchText) -> Result<Vec<Operation>, All
 }
 
 /// Returns the error of a patch.
-fn patch_error(error: in_text::EditError<FailedOperation>) -> EditError
+fn patch_error(error: text_step::StepError<FailedOperation>) -> EditError
     ensures { result ≡ of_patch_error error }
 {
     match error {
-        in_text::EditError::NotJson => EditError::NotJson,
-        in_text::EditError::Refused(error) => EditError::Patch(error),
-        in_text::EditError::TooDeep => EditError::TooDeep,
-        in_text::EditError::Memory(error) => EditError::Memory(error),
+        text_step::StepError::NotJson => EditError::NotJson,
+        text_step::StepError::Refused(error) => EditError::Patch(error),
+        text_step::StepError::TooDeep => EditError::TooDeep,
+        text_step::StepError::Memory(error) => EditError::Memory(error),
     }
 }

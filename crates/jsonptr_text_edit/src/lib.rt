@@ -47,7 +47,7 @@ mod text;
 pub use edit::Edit;
 pub use edit_error::EditError;
 pub use edited::Edited;
-pub use jsonptr_json_edits::buffers::Buffers;
+pub use jsonptr_text_piece::buffers::Buffers;
 pub use jsonptr_text_step::{
     IndentError, LocateError, Located, PointerAt, RenameError, indent_text, locate, pointer_at,
 };

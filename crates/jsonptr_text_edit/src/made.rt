@@ -18,8 +18,8 @@ use crate::by_document::apply_and_print;
 use crate::edit::Edit;
 use crate::edit_error::EditError;
 use jsonptr::{Pointer, assign};
-use jsonptr_json_edits::buffers::Buffers;
-use jsonptr_text_step as in_text;
+use jsonptr_text_piece::buffers::Buffers;
+use jsonptr_text_step as text_step;
 use jsonptr_text_step::{
     RenameError, apply_in_text, assign_in_text, delete_in_text, rename_in_text,
 };
@@ -35,7 +35,7 @@ pub fn make(
     buffers: &mut Buffers,
     text: &str,
     edit: &Edit<'_>,
-) -> Result<in_text::Edited, EditError>
+) -> Result<text_step::Stepped, EditError>
     ensures edited { IfOk result (λ e. EditsText text.now edit.now (edited_text e)) }
     ensures bytes { IfOk result (KeepsBytes (EditBytes text.now edit.now)) }
     ensures refused { IfErr result (IsEditError text.now edit.now) }
@@ -54,7 +54,7 @@ fn assigned(
     text: &str,
     pointer: Pointer<'_>,
     raw: &RawValue,
-) -> Result<in_text::Edited, EditError>
+) -> Result<text_step::Stepped, EditError>
     ensures edited { IfOk result (λ e. AssignsInText text.now (tokens pointer.entry)
         (nodes (value_of_raw raw.now)) (edited_text e)) }
     ensures bytes { IfOk result
@@ -72,7 +72,7 @@ fn deleted(
     buffers: &mut Buffers,
     text: &str,
     pointer: Pointer<'_>,
-) -> Result<in_text::Edited, EditError>
+) -> Result<text_step::Stepped, EditError>
     ensures edited { IfOk result
         (λ e. DeletesInText text.now (tokens pointer.entry) (edited_text e)) }
     ensures bytes { IfOk result (KeepsBytes (DeletesBytes text.now (tokens pointer.entry))) }
@@ -91,7 +91,7 @@ fn renamed(
     text: &str,
     pointer: Pointer<'_>,
     key: &str,
-) -> Result<in_text::Edited, EditError>
+) -> Result<text_step::Stepped, EditError>
     ensures edited { IfOk result
         (λ e. RenamesInText text.now (tokens pointer.entry) key.now (edited_text e)) }
     ensures bytes { IfOk result
@@ -109,7 +109,7 @@ fn patched(
     buffers: &mut Buffers,
     text: &str,
     patch: &PatchText,
-) -> Result<in_text::Edited, EditError>
+) -> Result<text_step::Stepped, EditError>
     ensures edited { IfOk result (λ e. PatchesInText text.now
         (operations_in patch.now.operations.items) (edited_text e)) }
     ensures bytes { IfOk result (KeepsBytes (RawPatchBytes text.now patch.now.operations.items)) }
@@ -117,20 +117,20 @@ fn patched(
         (FailsToPatch text.now (operations_in patch.now.operations.items)) }
 {
     match apply_in_text(buffers, text, patch.operations.as_slice())? {
-        Some(new) => Ok(in_text::Edited::InPlace(new)),
-        None => Ok(in_text::Edited::Rewritten(apply_and_print(buffers.alloc, text, patch)?)),
+        Some(new) => Ok(text_step::Stepped::InPlace(new)),
+        None => Ok(text_step::Stepped::Rewritten(apply_and_print(buffers.alloc, text, patch)?)),
     }
 }
 
 /// Returns the error of an assignment.
-fn assign_error(error: in_text::EditError<assign::Error>) -> EditError
+fn assign_error(error: text_step::StepError<assign::Error>) -> EditError
     ensures { result ≡ of_assign_error error }
 {
     match error {
-        in_text::EditError::NotJson => EditError::NotJson,
-        in_text::EditError::Refused(error) => EditError::Assign(error),
-        in_text::EditError::TooDeep => EditError::TooDeep,
-        in_text::EditError::Memory(error) => EditError::Memory(error),
+        text_step::StepError::NotJson => EditError::NotJson,
+        text_step::StepError::Refused(error) => EditError::Assign(error),
+        text_step::StepError::TooDeep => EditError::TooDeep,
+        text_step::StepError::Memory(error) => EditError::Memory(error),
     }
 }
 
@@ -145,13 +145,13 @@ fn read_error(error: ReadError) -> EditError
 }
 
 /// Returns the error of a renaming.
-fn rename_error(error: in_text::EditError<RenameError>) -> EditError
+fn rename_error(error: text_step::StepError<RenameError>) -> EditError
     ensures { result ≡ of_rename_error error }
 {
     match error {
-        in_text::EditError::NotJson => EditError::NotJson,
-        in_text::EditError::Refused(error) => EditError::Rename(error),
-        in_text::EditError::TooDeep => EditError::TooDeep,
-        in_text::EditError::Memory(error) => EditError::Memory(error),
+        text_step::StepError::NotJson => EditError::NotJson,
+        text_step::StepError::Refused(error) => EditError::Rename(error),
+        text_step::StepError::TooDeep => EditError::TooDeep,
+        text_step::StepError::Memory(error) => EditError::Memory(error),
     }
 }

@@ -8,7 +8,7 @@ ghost use Rattle.jsonptr_text_edit.specs.Edited.{text_of, IfInPlace};
 ghost use Rattle.jsonptr_text_edit.specs.PrivateKept.{IsMadeAs};
 
 use crate::edited::Edited;
-use jsonptr_text_step as in_text;
+use jsonptr_text_step as text_step;
 use jsonptr_text_step::stays_one_line;
 use jsonptr_value::ReadError;
 use std::alloc::{AllocError, Global};
@@ -19,19 +19,23 @@ use std::alloc::{AllocError, Global};
 /// # Errors
 ///
 /// [`AllocError`] if an allocation fails.
-pub fn on_one_line(alloc: Global, text: &str, made: in_text::Edited) -> Result<Edited, AllocError>
+pub fn on_one_line(
+    alloc: Global,
+    text: &str,
+    made: text_step::Stepped,
+) -> Result<Edited, AllocError>
     requires { (d : Data) × (read (edited_text made) ≡ Some d) }
     ensures reads { IfOk result (λ e. read (text_of e) ≡ read (edited_text made)) }
     ensures in_place { IfOk result (IsMadeAs made) }
     ensures one_line { IfOk result (IfInPlace (StaysOneLine text.now)) }
 {
     match made {
-        in_text::Edited::InPlace(new) => if stays_one_line(text, new.as_str()) {
+        text_step::Stepped::InPlace(new) => if stays_one_line(text, new.as_str()) {
             Ok(Edited::InPlace(new))
         } else {
             Ok(Edited::Reprinted(printed(alloc, new.as_str())?))
         },
-        in_text::Edited::Rewritten(new) => Ok(Edited::Reprinted(new)),
+        text_step::Stepped::Rewritten(new) => Ok(Edited::Reprinted(new)),
     }
 }
 

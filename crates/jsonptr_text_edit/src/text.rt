@@ -10,7 +10,7 @@ use crate::edit_error::EditError;
 use crate::edited::Edited;
 use crate::made::make;
 use crate::reprint::on_one_line;
-use jsonptr_json_edits::buffers::Buffers;
+use jsonptr_text_piece::buffers::Buffers;
 
 /// Makes the edit in the document that the text contains, and returns the new text.
 ///

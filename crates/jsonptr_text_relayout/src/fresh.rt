@@ -4,7 +4,7 @@ use crate::gaps::{Gaps, key_of};
 use crate::given::GivenValue;
 use crate::lay::{At, Layer, closing, opening};
 use crate::tree::{NodeKind, TreeChild, TreeNode};
-use jsonptr_json_edits::layout::slice;
+use jsonptr_text_piece::span::slice;
 use std::alloc::AllocError;
 
 /// How many members of a model are looked at for one with a key.

@@ -1,7 +1,8 @@
 //! What is around the children of an array or an object.
 
 use crate::tree::{TreeChild, TreeNode};
-use jsonptr_json_edits::layout::{breaks, slice};
+use jsonptr_text_layout::layout::breaks;
+use jsonptr_text_piece::span::slice;
 
 /// The text around the children of an array or an object that has some.
 #[derive(Clone, Copy, Debug)]

@@ -5,7 +5,7 @@ use crate::gaps::{Gaps, before, indent_after};
 use crate::given::{Given, GivenValue};
 use crate::style::Style;
 use crate::tree::{NodeKind, TreeNode};
-use jsonptr_json_edits::layout::slice;
+use jsonptr_text_piece::span::slice;
 use std::alloc::{AllocError, Global};
 
 /// How many siblings of a new child are looked at for one like it.

@@ -31,11 +31,11 @@ mod gaps;
 mod given;
 mod hash;
 mod lay;
-mod layout;
 mod relaid;
+mod relayouts;
 mod style;
 mod tree;
 
-pub use jsonptr_json_edits::buffers::Buffers;
-pub use layout::{relayout, relayout_text, relayout_with_texts};
+pub use jsonptr_text_piece::buffers::Buffers;
 pub use relaid::{Relaid, RelayoutError, RelayoutTextError};
+pub use relayouts::{relayout, relayout_text, relayout_with_texts};

@@ -3,8 +3,9 @@ ghost use Rattle.std.specs.Prelude.{◌<◌, ◌≤◌, length, OnOk};
 
 use crate::hash;
 use json::{Reader, Token};
-use jsonptr_json_edits::buffers::Buffers;
-use jsonptr_json_edits::locate::{Span, end_of_value};
+use jsonptr_text_piece::buffers::Buffers;
+use jsonptr_text_piece::child::end_of_value;
+use jsonptr_text_piece::span::Span;
 use jsonptr_value::{MAX_DEPTH, ReadError};
 use std::alloc::Global;
 

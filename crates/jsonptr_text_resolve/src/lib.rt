@@ -34,7 +34,6 @@
 #![tactic(auto)]
 
 mod both_formats;
-mod child;
 mod document;
 mod error_at;
 mod format;
@@ -42,6 +41,7 @@ pub mod laws;
 pub mod path;
 mod resolve;
 pub mod selectors;
+mod with_child;
 
 pub use both_formats::{BothFormats, format_both};
 pub use document::is_document;

@@ -10,9 +10,9 @@ ghost use Rattle.jsonptr_text_resolve.specs.InText.{FindsInText, RefusesInText, 
 ghost use Rattle.jsonptr_value.specs.Reading.{IsReadError};
 ghost use Rattle.jsonptr_text_resolve.specs.declared.resolve.InTextError.TheVariants.{Memory};
 
-use crate::child::{error_above_child, selectors_with_child};
 use crate::error_at::error_at;
 use crate::selectors::selectors_of;
+use crate::with_child::{error_above_child, selectors_with_child};
 use json::Scratch;
 use jsonptr::{Pointer, resolve};
 use jsonptr_text_search::find::find_in_text_with;

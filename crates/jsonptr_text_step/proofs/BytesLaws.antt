@@ -6,7 +6,7 @@ use Rattle.serde_json.specs.Data.{Data}
 use Rattle.jsonptr.specs.Text.{Text}
 use Rattle.jsonptr_text_resolve.specs.InText.{FindsInText}
 use Rattle.jsonptr_io.specs.Lines.{IsOneLine}
-use Rattle.jsonptr_json_edits.specs.Spacing.{IsBlank, Splices}
+use Rattle.jsonptr_text_piece.specs.Spacing.{IsBlank, Splices}
 use Rattle.jsonptr_text_step.specs.Bytes.{AddsPiece, CutsBytes, ReplacesBytes}
 
 pub put_back : (old new : Text) (tokens : List Text) (e : Data) (h : ReplacesBytes old new tokens e) → FindsInText new tokens e → ReplacesBytes new old tokens h.value

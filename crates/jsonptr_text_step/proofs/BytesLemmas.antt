@@ -20,12 +20,12 @@ use Rattle.jsonptr_text_search.specs.Search.{Choice}
 use Rattle.jsonptr_text_resolve.specs.InText.{FindsInText}
 use Rattle.jsonptr_text_resolve.specs.Selecting.{IsChoiceOf, AreChoicesOf}
 use Rattle.jsonptr_patch.specs.Adding.{MeansPlace}
-use Rattle.jsonptr_json_edits.specs.Editing.{InsertsItem, AddsChosenMember, AddsElement, ChangesChild, Makes}
-use Rattle.jsonptr_json_edits.specs.declared.edit.Child.{Child}
-use Rattle.jsonptr_json_edits.specs.declared.edit.Edit.TheVariants as edit
-use Rattle.jsonptr_json_edits.specs.Spacing.{IsBlank, IsTrimmed}
-use Rattle.jsonptr_json_edits.specs.Child.{IsValueText}
-use Rattle.jsonptr_json_edits.specs.PrivateChild.{IsCutChild}
+use Rattle.jsonptr_text_check.specs.Editing.{InsertsItem, AddsChosenMember, AddsElement, ChangesChild, Makes}
+use Rattle.jsonptr_text_check.specs.declared.change.ChildValue.{ChildValue}
+use Rattle.jsonptr_text_check.specs.declared.change.Change.TheVariants as change
+use Rattle.jsonptr_text_piece.specs.Spacing.{IsBlank, IsTrimmed}
+use Rattle.jsonptr_text_check.specs.Child.{IsValueText}
+use Rattle.jsonptr_text_check.specs.PrivateChild.{IsCutChild}
 use Rattle.jsonptr_text_step.specs.Steps.{ReplacesByText, AddsAtByText}
 use Rattle.jsonptr_text_step.specs.Bytes.{IsScalar, HasPlace, ReplacesBytes, CutsBytes, CutsInTurn, CutsMembers, CutsElement}
 use Rattle.jsonptr_text_value.specs.Raw.{value_of_raw}
@@ -170,14 +170,14 @@ adds_new_member old new front x flat h p =
 one_index : (i j : ℕ) → Some i ≡ Some j → i ≡ j
 one_index i j h = cc
 
-pub adds_last_element : (old new : Text) (front : List Text) (x flat : Text) (child : Child) (i : ℕ) → child.selector.index ≡ Some i → (x ≡ codes "-") ⊎ (x ≡ dec i) → ReachedInText old new front (Makes (edit.Append child)) → AddsPieceByText old new (front ++ dec i ∷ []) None flat → AddsByText old new front x flat
+pub adds_last_element : (old new : Text) (front : List Text) (x flat : Text) (child : ChildValue) (i : ℕ) → child.selector.index ≡ Some i → (x ≡ codes "-") ⊎ (x ≡ dec i) → ReachedInText old new front (Makes (change.Append child)) → AddsPieceByText old new (front ++ dec i ∷ []) None flat → AddsByText old new front x flat
 adds_last_element old new front x flat child i index refers h p =
     let a = h.4.changes.2 in
     let same : i ≡ json_search.items_count a.ds = one_index i a.i (sym index ∙ a.selects) ∙ a.last in
     let q = subst (λ (n : ℕ). AddsPieceByText old new (front ++ dec n ∷ []) None flat) same p in
     let place : HasPlace old front x = record {
       ds = a.ds;
-      found = found_is old front h.4.at (json.array a.ds) a.old (found_old old new front (Makes (edit.Append child)) h);
+      found = found_is old front h.4.at (json.array a.ds) a.old (found_old old new front (Makes (change.Append child)) h);
       i = json_search.items_count a.ds;
       means = means a.ds (subst (λ (n : ℕ). (x ≡ codes "-") ⊎ (x ≡ dec n)) same refers);
     } in
@@ -200,7 +200,7 @@ adds_new_element old new front x flat h p =
     } in
     (q.0, q.1, inr (place, q.2), q.3)
 
-pub element_appended : (child : Child) (x flat : Text) (i : ℕ) (d d2 : Data) → child.selector.index ≡ Some i → (x ≡ codes "-") ⊎ (x ≡ dec i) → string_bytes child.value ≡ flat → Makes (edit.Append child) d d2 → ElementAppended x flat d d2
+pub element_appended : (child : ChildValue) (x flat : Text) (i : ℕ) (d d2 : Data) → child.selector.index ≡ Some i → (x ≡ codes "-") ⊎ (x ≡ dec i) → string_bytes child.value ≡ flat → Makes (change.Append child) d d2 → ElementAppended x flat d d2
 element_appended child x flat i d d2 index refers value m =
     let a = m.2 in
     let same : i ≡ json_search.items_count a.ds = one_index i a.i (sym index ∙ a.selects) ∙ a.last in record {
@@ -214,7 +214,7 @@ element_appended child x flat i d d2 index refers value m =
       refers = subst (λ (n : ℕ). (x ≡ codes "-") ⊎ (x ≡ dec n)) same refers;
     }
 
-pub element_inserted : (child : Child) (x flat : Text) (d d2 : Data) → IsChoiceOf x (json_search.choice_of child.selector) → string_bytes child.value ≡ flat → Makes (edit.Insert child) d d2 → ElementInserted x flat d d2
+pub element_inserted : (child : ChildValue) (x flat : Text) (d d2 : Data) → IsChoiceOf x (json_search.choice_of child.selector) → string_bytes child.value ≡ flat → Makes (change.Insert child) d d2 → ElementInserted x flat d d2
 element_inserted child x flat d d2 is value m = (m.0, json_search.choice_of child.selector, ap read (sym value) ∙ m.1, is, m.2)
 
 pub adds_expanded_bytes : (old new : Text) (front : List Text) (x : Text) (rest : List Text) (flat : Text) (raw : RawValue) (e : Data) → read flat ≡ Some e → nodes e ≡ expanded rest (nodes (value_of_raw raw)) → lexed flat ≡ wrapped rest (lexed (string_bytes raw.printed.flat)) → AddsByText old new front x flat → AddsWith raw old new front x rest

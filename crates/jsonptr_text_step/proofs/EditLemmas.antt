@@ -20,13 +20,13 @@ use Rattle.jsonptr_tree.proofs.PutLemmas.{cases_same, same_by_step, put-step, pu
 use Rattle.jsonptr_tree.proofs.AssigningLemmas.{made, made-step, made-other_step, Assigns_named, Assigns_leaf, Assigns_object_below, Assigns_end_below, Assigns-leaf, Assigns-named}
 use Rattle.jsonptr_text_search.specs.Search as json_search
 use Rattle.jsonptr_text_resolve.proofs.SearchLemmas.{len_same, member_content}
-use Rattle.jsonptr_json_edits.specs.declared.edit.Child.{Child}
-use Rattle.jsonptr_json_edits.specs.declared.edit.Edit.{Edit}
-use Rattle.jsonptr_json_edits.specs.declared.edit.Edit.TheVariants as edit
+use Rattle.jsonptr_text_check.specs.declared.change.ChildValue.{ChildValue}
+use Rattle.jsonptr_text_check.specs.declared.change.Change.{Change}
+use Rattle.jsonptr_text_check.specs.declared.change.Change.TheVariants as change
 use Rattle.jsonptr_text_resolve.specs.Selecting.{AreChoicesOf}
-use Rattle.jsonptr_json_edits.specs.Editing.{AddsChosenMember, InsertsItem, InsertsMember, Makes, IsEdited}
+use Rattle.jsonptr_text_check.specs.Editing.{AddsChosenMember, InsertsItem, InsertsMember, Makes, IsEdited}
 use Rattle.jsonptr_text_step.specs.Bytes.{IsScalar}
-use Rattle.jsonptr_text_step.specs.declared.replace.ValueEdit.{ValueEdit}
+use Rattle.jsonptr_text_step.specs.declared.replace.ValueChange.{ValueChange}
 use Rattle.jsonptr_text_step.specs.EditInText.{AssignsInText}
 use Rattle.jsonptr_text_step.specs.PrivateReaching.{ReachedInText, ReplacesCut, IsValueEdit, Becomes, ScalarBecomes, MemberAdded, ElementAppended}
 use Rattle.jsonptr_text_step.proofs.ReachingLemmas.{reached_in_text, reached_so, item_content, below, same_below, other_place, other_key}
@@ -216,11 +216,11 @@ scalar_label c a h = (a, ap label_of h)
 
 -- ---- what an edit does, by the text of its value
 
-pub replaced_reaches : (old new : Text) (tokens : List Text) (cs : List json_search.Choice) (middle flat : Text) (made : ValueEdit) → AreChoicesOf tokens cs → IsValueEdit middle flat made → IsEdited old new cs made.edit → ReachedInText old new tokens (ReplacesCut middle flat)
+pub replaced_reaches : (old new : Text) (tokens : List Text) (cs : List json_search.Choice) (middle flat : Text) (made : ValueChange) → AreChoicesOf tokens cs → IsValueEdit middle flat made → IsEdited old new cs made.change → ReachedInText old new tokens (ReplacesCut middle flat)
 replaced_reaches old new tokens cs middle flat made are is h =
     subst (λ (w : Text). ReachedInText old new tokens (ReplacesCut w flat)) is.old
     (subst (λ (f : Text). ReachedInText old new tokens (ReplacesCut (string_bytes is.before) f)) is.new
-    (subst (λ (e : Edit). ReachedInText old new tokens (Makes e)) is.edit (reached_in_text old new tokens cs (Makes made.edit) are h)))
+    (subst (λ (e : Change). ReachedInText old new tokens (Makes e)) is.change (reached_in_text old new tokens cs (Makes made.change) are h)))
 
 pub of_value : (old new : Text) (tokens : List Text) (flat : Text) (v : Data) → read flat ≡ Some v → ReachedInText old new tokens (Becomes flat) → AssignsInText old tokens (nodes v) new
 of_value old new tokens flat v is h = assigns_value old new tokens (Becomes flat) v (λ at at2 m. same_data at2 v (sym m ∙ is)) h
@@ -234,7 +234,7 @@ of_member old new front x flat e is h = reached_so old new front (MemberAdded x 
 pub of_element : (old new : Text) (front : List Text) (x flat : Text) (e : Data) → read flat ≡ Some e → ReachedInText old new front (ElementAppended x flat) → ReachedInText old new front (AppendsAt x e)
 of_element old new front x flat e is h = reached_so old new front (ElementAppended x flat) (AppendsAt x e) (λ d d2 m. (m.ds, m.ds2, m.old, m.new, subst (λ (y : Data). InsertsItem (json_search.items_count m.ds) y m.ds m.ds2) (same_data m.e e (sym m.reads ∙ is)) m.inserts, m.refers)) h
 
-pub member_made : (child : Child) (x flat : Text) (d d2 : Data) → string_bytes child.selector.key ≡ x → string_bytes child.value ≡ flat → Makes (edit.Add child) d d2 → MemberAdded x flat d d2
+pub member_made : (child : ChildValue) (x flat : Text) (d d2 : Data) → string_bytes child.selector.key ≡ x → string_bytes child.value ≡ flat → Makes (change.Add child) d d2 → MemberAdded x flat d d2
 member_made child x flat d d2 named value m = (
   m.0,
   ap read (sym value) ∙ m.1,

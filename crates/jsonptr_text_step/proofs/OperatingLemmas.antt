@@ -29,13 +29,13 @@ use Rattle.jsonptr_patch.proofs.AddingLemmas.{taken}
 use Rattle.jsonptr_patch.proofs.InsertingLemmas.{cases_place, with_place-same, with_place-below, with_place-above, with_place-root}
 use Rattle.jsonptr_patch.proofs.OperatingLemmas.{patches_push_by}
 use Rattle.jsonptr_patch.specs.declared.comparison.Comparison.TheVariants.{Numeric}
-use Rattle.jsonptr_json_edits.specs.Editing.{InsertsItem, ChangesChild, ChangesAt, IsEdited}
-use Rattle.jsonptr_json_edits.specs.Leading.{LeadsInText}
-use Rattle.jsonptr_json_edits.specs.declared.edit.Edit.TheVariants.{Replace}
+use Rattle.jsonptr_text_check.specs.Editing.{InsertsItem, ChangesChild, ChangesAt, IsEdited}
+use Rattle.jsonptr_text_check.specs.Leading.{LeadsInText}
+use Rattle.jsonptr_text_check.specs.declared.change.Change.TheVariants.{Replace}
 use Rattle.jsonptr_text_step.specs.Steps.{AddsInText, ReplacesInText, PassesInText}
 use Rattle.jsonptr_text_step.specs.EditInText.{DeletesInText}
 use Rattle.jsonptr_text_step.specs.PatchInText.{PatchesInText}
-use Rattle.jsonptr_text_step.specs.declared.replace.ValueEdit.{ValueEdit}
+use Rattle.jsonptr_text_step.specs.declared.replace.ValueChange.{ValueChange}
 use Rattle.jsonptr_text_step.specs.PrivateReaching.{ReachedInText, Becomes, ReplacesCut, IsValueEdit, MemberAdded, ElementAppended}
 use Rattle.jsonptr_text_step.specs.PrivateOperating.{PutsInText, AddsValueInText, FindsText, MovesInText, CopiesInText, ElementInserted, AreMemberChoices, OperatesInText}
 use Rattle.jsonptr_text_value.proofs.WrappingLemmas.{same_data}
@@ -173,11 +173,11 @@ reached_child old new front x cs R are h =
     reached_in_text old new front are.0 (ChangesChild (x, None) R) are.2
     (h.0, h.1, h.2, h.3, changes_last are.0 (x, None) R h.0 h.1 (subst (λ (ss : List Choice). ChangesAt ss R h.0 h.1) are.1 h.4))
 
-pub replaced_cut : (old cut new : Text) (front : List Text) (x : Text) (cs : List Choice) (middle flat : Text) (made : ValueEdit) → cut ≡ old → AreMemberChoices front x cs → IsValueEdit middle flat made → IsEdited cut new cs made.edit → ReachedInText old new front (ChangesChild (x, None) (ReplacesCut middle flat))
+pub replaced_cut : (old cut new : Text) (front : List Text) (x : Text) (cs : List Choice) (middle flat : Text) (made : ValueChange) → cut ≡ old → AreMemberChoices front x cs → IsValueEdit middle flat made → IsEdited cut new cs made.change → ReachedInText old new front (ChangesChild (x, None) (ReplacesCut middle flat))
 replaced_cut old cut new front x cs middle flat made same are is h =
     subst (λ (w : Text). ReachedInText old new front (ChangesChild (x, None) (ReplacesCut w flat))) is.old
     (subst (λ (f : Text). ReachedInText old new front (ChangesChild (x, None) (ReplacesCut (string_bytes is.before) f))) is.new
-    (reached_child old new front x cs (ReplacesCut (string_bytes is.before) (string_bytes is.after)) are (subst (λ (t : Text). IsEdited t new cs (Replace is.before is.after)) same (subst (IsEdited cut new cs) is.edit h))))
+    (reached_child old new front x cs (ReplacesCut (string_bytes is.before) (string_bytes is.after)) are (subst (λ (t : Text). IsEdited t new cs (Replace is.before is.after)) same (subst (IsEdited cut new cs) is.change h))))
 
 pub adds_in_place_of : (old new : Text) (front : List Text) (x middle flat : Text) → ReachedInText old new front (ChangesChild (x, None) (ReplacesCut middle flat)) → AddsInText old (front ++ x ∷ []) flat new
 adds_in_place_of old new front x middle flat h = at h.4.changes

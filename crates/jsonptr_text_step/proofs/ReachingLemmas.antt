@@ -17,7 +17,7 @@ use Rattle.jsonptr_text_search.specs.Search.{Choice}
 use Rattle.jsonptr_text_resolve.specs.Selecting.{AreChoicesOf}
 use Rattle.jsonptr_text_resolve.proofs.SearchLemmas.{len_same, member_content}
 use Rattle.jsonptr_text_step.specs.PrivateReaching.{Reached, ReachedInText}
-use Rattle.jsonptr_json_edits.specs.Editing.{OnlyItemDiffers, OnlyMemberDiffers, ChangesAt}
+use Rattle.jsonptr_text_check.specs.Editing.{OnlyItemDiffers, OnlyMemberDiffers, ChangesAt}
 
 pub item_content : (ds : json.Items) (i : ℕ) → get_item i (items ds) ≡ option_map content (find.get_item i ds)
 item_content json.no_items i = refl

@@ -20,7 +20,7 @@ use Rattle.jsonptr_text_search.specs.Search as json_search
 use Rattle.jsonptr_text_search.specs.Search.{Choice}
 use Rattle.jsonptr_text_resolve.specs.Selecting.{IsChoiceOf}
 use Rattle.jsonptr_text_resolve.proofs.SearchLemmas.{len_same, member_content}
-use Rattle.jsonptr_json_edits.specs.Editing.{InsertsItem, InsertsMember, AddsChosenMember, AddsElement}
+use Rattle.jsonptr_text_check.specs.Editing.{InsertsItem, InsertsMember, AddsChosenMember, AddsElement}
 use Rattle.jsonptr_text_step.specs.EditInText.{AssignsInText, DeletesInText}
 use Rattle.jsonptr_text_step.specs.PrivateReaching.{ReachedInText}
 use Rattle.jsonptr_text_step.proofs.ReachingLemmas.{item_content, other_key, reached_so}

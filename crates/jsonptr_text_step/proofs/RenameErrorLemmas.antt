@@ -28,8 +28,8 @@ use Rattle.jsonptr_patch.proofs.OneLemmas.{no_last, last_one}
 use Rattle.jsonptr_text_step.specs.PrivateRenaming.{IsThere, IsObjectAt, IsMemberOf, IsTarget}
 use Rattle.jsonptr_text_step.specs.PrivateRewriting.{IsPrintError}
 use Rattle.jsonptr_text_step.specs.Renaming.{IsMember, RenamesInText, IsRenameError}
-use Rattle.jsonptr_text_step.specs.declared.edited.EditError.{EditError}
-use Rattle.jsonptr_text_step.specs.declared.edited.EditError.TheVariants.{NotJson, Refused, TooDeep, Memory}
+use Rattle.jsonptr_text_step.specs.declared.stepped.StepError.{StepError}
+use Rattle.jsonptr_text_step.specs.declared.stepped.StepError.TheVariants.{NotJson, Refused, TooDeep, Memory}
 use Rattle.jsonptr_text_step.specs.declared.rename.RenameError.{RenameError}
 use Rattle.jsonptr_text_step.proofs.EditLemmas.{label_there}
 use Rattle.jsonptr_text_step.proofs.RenamingLemmas.{member_named, left_object, not_below}
@@ -178,7 +178,7 @@ renamed_within k n m tokens o y h blank v = at v.added
 move_of : (c : Comparison) (n m : NodeMap) (tokens target : List Text) (k : Text) (t : IsTarget n tokens k target) → PatchesBy c n (Move tokens target ∷ []) m → Moves n tokens (t.member.front ++ k ∷ []) m
 move_of c n m tokens target k t p = subst (λ (ts : List Text). Moves n tokens ts m) t.target_is (subst (λ (o : NodeMap). Moves n tokens target o) (sym p.2) p.1)
 
-pub moved_then : (c : Comparison) (old : Text) (tokens target : List Text) (k : Text) (d d2 : Data) (out : Result (String Global) (EditError RenameError)) → read old ≡ Some d → IsTarget (nodes d) tokens k target → PatchesBy c (nodes d) (Move tokens target ∷ []) (nodes d2) → IfOk out (λ s. read (string_bytes s) ≡ Some d2) → IfOk out (λ s. RenamesInText old tokens k (string_bytes s))
+pub moved_then : (c : Comparison) (old : Text) (tokens target : List Text) (k : Text) (d d2 : Data) (out : Result (String Global) (StepError RenameError)) → read old ≡ Some d → IsTarget (nodes d) tokens k target → PatchesBy c (nodes d) (Move tokens target ∷ []) (nodes d2) → IfOk out (λ s. read (string_bytes s) ≡ Some d2) → IfOk out (λ s. RenamesInText old tokens k (string_bytes s))
 moved_then c old tokens target k d d2 (Ok s) reads t p h = (d, d2, reads, h, record { member = t.member; free = t.free; moves = move_of c (nodes d) (nodes d2) tokens target k t p })
 moved_then c old tokens target k d d2 (Err e) reads t p h = tt
 
@@ -188,12 +188,12 @@ moved_depth c old tokens target k d d2 reads t p sorted =
     let blank : NestsWithin max_depth (nodes null) = NestsWithin-more 0 max_depth (nodes null) (omega arith) (NestsWithin-depth null) in
     depth-within d2 max_depth sorted (renamed_within max_depth (nodes d) (nodes d2) tokens t.member k before blank (move_of c (nodes d) (nodes d2) tokens target k t p))
 
-print_fault : (old : Text) (tokens : List Text) (k : Text) (d2 : Data) (e : EditError RenameError) → depth d2 ≤ max_depth → IsPrintError d2 e → IsRenameError old tokens k e
+print_fault : (old : Text) (tokens : List Text) (k : Text) (d2 : Data) (e : StepError RenameError) → depth d2 ≤ max_depth → IsPrintError d2 e → IsRenameError old tokens k e
 print_fault old tokens k d2 NotJson le h = absurd h
 print_fault old tokens k d2 (Refused e) le h = absurd h
 print_fault old tokens k d2 TooDeep le h = absurd (omega (arith, le, h))
 print_fault old tokens k d2 (Memory e) le h = tt
 
-pub move_fails_then : (c : Comparison) (old : Text) (tokens target : List Text) (k : Text) (d d2 : Data) (out : Result (String Global) (EditError RenameError)) → read old ≡ Some d → IsTarget (nodes d) tokens k target → PatchesBy c (nodes d) (Move tokens target ∷ []) (nodes d2) → HasSortedKeys d2 → IfErr out (IsPrintError d2) → IfErr out (IsRenameError old tokens k)
+pub move_fails_then : (c : Comparison) (old : Text) (tokens target : List Text) (k : Text) (d d2 : Data) (out : Result (String Global) (StepError RenameError)) → read old ≡ Some d → IsTarget (nodes d) tokens k target → PatchesBy c (nodes d) (Move tokens target ∷ []) (nodes d2) → HasSortedKeys d2 → IfErr out (IsPrintError d2) → IfErr out (IsRenameError old tokens k)
 move_fails_then c old tokens target k d d2 (Ok s) reads t p sorted h = tt
 move_fails_then c old tokens target k d d2 (Err e) reads t p sorted h = print_fault old tokens k d2 e (moved_depth c old tokens target k d d2 reads t p sorted) h

@@ -22,7 +22,7 @@ use Rattle.jsonptr_text_resolve.proofs.SearchLemmas.{member_content}
 use Rattle.jsonptr_patch.specs.Adding.{AddsUnder}
 use Rattle.jsonptr_patch.specs.Operating.{IsProperPrefix, Moves}
 use Rattle.jsonptr_patch.proofs.OneLemmas.{last_one}
-use Rattle.jsonptr_json_edits.specs.Editing.{RenamesKey, RenamesMember}
+use Rattle.jsonptr_text_check.specs.Editing.{RenamesKey, RenamesMember}
 use Rattle.jsonptr_text_step.specs.PrivateReaching.{ReachedInText}
 use Rattle.jsonptr_text_step.specs.PrivateRenaming.{IsMemberInText}
 use Rattle.jsonptr_text_step.specs.Renaming.{IsMember, Renames, RenamesInText}

@@ -28,8 +28,8 @@ use Rattle.jsonptr_patch.specs.declared.comparison.Comparison.TheVariants.{Numer
 use Rattle.jsonptr_text_step.specs.EditInText.{AssignsInText, IsAssignError}
 use Rattle.jsonptr_text_step.specs.PatchInText.{PatchesInText, IsPatchError}
 use Rattle.jsonptr_text_step.specs.PrivateRewriting.{IsShortened, IsPrintError}
-use Rattle.jsonptr_text_step.specs.declared.edited.EditError.{EditError}
-use Rattle.jsonptr_text_step.specs.declared.edited.EditError.TheVariants.{NotJson, Refused, TooDeep, Memory}
+use Rattle.jsonptr_text_step.specs.declared.stepped.StepError.{StepError}
+use Rattle.jsonptr_text_step.specs.declared.stepped.StepError.TheVariants.{NotJson, Refused, TooDeep, Memory}
 
 -- with more tokens, following stops at the same node, before the same token
 StopsAt-more : (n : NodeMap) (tokens front : List Text) (x : Text) (rest more : List Text) (w : Path) → StopsAt n tokens front w (x ∷ rest) → StopsAt n (tokens ++ more) front w (x ∷ (rest ++ more))
@@ -195,33 +195,33 @@ too_deep_whole old tokens front d d2 v r reads (inr (rest, split, long)) made so
     let above = Assigns-above max_depth (nodes d) front (nodes v) (nodes d2) r (read-within old d reads) long made rest in
     (d, above.0, above.1, reads, subst (λ (ts : List Text). Assigns (nodes d) ts (nodes v) above.0 above.1) (sym split) above.2, λ s. above.3)
 
-pub assigned_then : (old : Text) (tokens front : List Text) (d d2 v : Data) (r : Option NodeMap) (out : Result (String Global) (EditError Error)) → read old ≡ Some d → IsShortened tokens front → Assigns (nodes d) front (nodes v) (nodes d2) r → IfOk out (λ s. read (string_bytes s) ≡ Some d2) → IfOk out (λ s. AssignsInText old tokens (nodes v) (string_bytes s))
+pub assigned_then : (old : Text) (tokens front : List Text) (d d2 v : Data) (r : Option NodeMap) (out : Result (String Global) (StepError Error)) → read old ≡ Some d → IsShortened tokens front → Assigns (nodes d) front (nodes v) (nodes d2) r → IfOk out (λ s. read (string_bytes s) ≡ Some d2) → IfOk out (λ s. AssignsInText old tokens (nodes v) (string_bytes s))
 assigned_then old tokens front d d2 v r (Ok s) reads short made h = assigned_whole old (string_bytes s) tokens front d d2 v r reads short made h
 assigned_then old tokens front d d2 v r (Err e) reads short made h = tt
 
-assign_fault : (old : Text) (tokens front : List Text) (d d2 v : Data) (r : Option NodeMap) (e : EditError Error) → read old ≡ Some d → IsShortened tokens front → Assigns (nodes d) front (nodes v) (nodes d2) r → (HasSortedKeys v → HasSortedKeys d2) → IsPrintError d2 e → IsAssignError old tokens v e
+assign_fault : (old : Text) (tokens front : List Text) (d d2 v : Data) (r : Option NodeMap) (e : StepError Error) → read old ≡ Some d → IsShortened tokens front → Assigns (nodes d) front (nodes v) (nodes d2) r → (HasSortedKeys v → HasSortedKeys d2) → IsPrintError d2 e → IsAssignError old tokens v e
 assign_fault old tokens front d d2 v r NotJson reads short made sorted h = absurd h
 assign_fault old tokens front d d2 v r (Refused e) reads short made sorted h = absurd h
 assign_fault old tokens front d d2 v r TooDeep reads short made sorted h = too_deep_whole old tokens front d d2 v r reads short made sorted h
 assign_fault old tokens front d d2 v r (Memory e) reads short made sorted h = tt
 
-pub assign_fails_then : (old : Text) (tokens front : List Text) (d d2 v : Data) (r : Option NodeMap) (out : Result (String Global) (EditError Error)) → read old ≡ Some d → IsShortened tokens front → Assigns (nodes d) front (nodes v) (nodes d2) r → (HasSortedKeys v → HasSortedKeys d2) → IfErr out (IsPrintError d2) → IfErr out (IsAssignError old tokens v)
+pub assign_fails_then : (old : Text) (tokens front : List Text) (d d2 v : Data) (r : Option NodeMap) (out : Result (String Global) (StepError Error)) → read old ≡ Some d → IsShortened tokens front → Assigns (nodes d) front (nodes v) (nodes d2) r → (HasSortedKeys v → HasSortedKeys d2) → IfErr out (IsPrintError d2) → IfErr out (IsAssignError old tokens v)
 assign_fails_then old tokens front d d2 v r (Ok s) reads short made sorted h = tt
 assign_fails_then old tokens front d d2 v r (Err e) reads short made sorted h = assign_fault old tokens front d d2 v r e reads short made sorted h
 
 -- the same of a patch
 
-pub patched_then : (old : Text) (os : List Operation) (d d2 : Data) (out : Result (String Global) (EditError FailedOperation)) → read old ≡ Some d → PatchesBy Numeric (nodes d) os (nodes d2) → IfOk out (λ s. read (string_bytes s) ≡ Some d2) → IfOk out (λ s. PatchesInText old os (string_bytes s))
+pub patched_then : (old : Text) (os : List Operation) (d d2 : Data) (out : Result (String Global) (StepError FailedOperation)) → read old ≡ Some d → PatchesBy Numeric (nodes d) os (nodes d2) → IfOk out (λ s. read (string_bytes s) ≡ Some d2) → IfOk out (λ s. PatchesInText old os (string_bytes s))
 patched_then old os d d2 (Ok s) reads made h = (d, d2, reads, h, made)
 patched_then old os d d2 (Err e) reads made h = tt
 
-patch_fault : (old : Text) (os : List Operation) (d d2 : Data) (e : EditError FailedOperation) → read old ≡ Some d → PatchesBy Numeric (nodes d) os (nodes d2) → (All OperationHasSortedKeys os → HasSortedKeys d2) → IsPrintError d2 e → IsPatchError old os e
+patch_fault : (old : Text) (os : List Operation) (d d2 : Data) (e : StepError FailedOperation) → read old ≡ Some d → PatchesBy Numeric (nodes d) os (nodes d2) → (All OperationHasSortedKeys os → HasSortedKeys d2) → IsPrintError d2 e → IsPatchError old os e
 patch_fault old os d d2 NotJson reads made sorted h = absurd h
 patch_fault old os d d2 (Refused e) reads made sorted h = absurd h
 patch_fault old os d d2 TooDeep reads made sorted h =
     (d, nodes d2, reads, made, λ s within. let le : depth d2 ≤ max_depth = depth-within d2 max_depth (sorted s) within in omega (arith, le, h))
 patch_fault old os d d2 (Memory e) reads made sorted h = tt
 
-pub patch_fails_then : (old : Text) (os : List Operation) (d d2 : Data) (out : Result (String Global) (EditError FailedOperation)) → read old ≡ Some d → PatchesBy Numeric (nodes d) os (nodes d2) → (All OperationHasSortedKeys os → HasSortedKeys d2) → IfErr out (IsPrintError d2) → IfErr out (IsPatchError old os)
+pub patch_fails_then : (old : Text) (os : List Operation) (d d2 : Data) (out : Result (String Global) (StepError FailedOperation)) → read old ≡ Some d → PatchesBy Numeric (nodes d) os (nodes d2) → (All OperationHasSortedKeys os → HasSortedKeys d2) → IfErr out (IsPrintError d2) → IfErr out (IsPatchError old os)
 patch_fails_then old os d d2 (Ok s) reads made sorted h = tt
 patch_fails_then old os d d2 (Err e) reads made sorted h = patch_fault old os d d2 e reads made sorted h

@@ -11,11 +11,11 @@ use Rattle.jsonptr.specs.Json.{content, nodes}
 use Rattle.jsonptr_text_search.specs.Search.{items_count}
 use Rattle.jsonptr_text_resolve.specs.InText.{FindsInText}
 use Rattle.jsonptr_patch.specs.Adding.{MeansPlace}
-use Rattle.jsonptr_json_edits.specs.Spacing.{IsBlank, Splices}
-use Rattle.jsonptr_json_edits.specs.Child.{IsValueText, IsOneChild, value_part}
+use Rattle.jsonptr_text_piece.specs.Spacing.{IsBlank, Splices}
+use Rattle.jsonptr_text_check.specs.Child.{IsValueText, IsOneChild, value_part}
 use Rattle.jsonptr_text_step.specs.Placing.{IsAt}
-use Rattle.jsonptr_text_step.specs.declared.edited.Edited.{Edited}
-use Rattle.jsonptr_text_step.specs.declared.edited.Edited.TheVariants.{InPlace, Rewritten}
+use Rattle.jsonptr_text_step.specs.declared.stepped.Stepped.{Stepped}
+use Rattle.jsonptr_text_step.specs.declared.stepped.Stepped.TheVariants.{InPlace, Rewritten}
 
 -- `IsScalar d`: `d` is neither an array nor an object
 abbrev pub IsScalar : Data → Type 0
@@ -137,6 +137,6 @@ DeletesBytes old tokens new =
     ⊎ ((front : List Text) × (x : Text) × (tokens ≡ front ++ x ∷ []) × CutsChild old new front x)
 
 -- `KeepsBytes P e`: if `e` was edited in place, its text meets `P`
-abbrev pub KeepsBytes : (Text → Type 0) → Edited → Type 0
+abbrev pub KeepsBytes : (Text → Type 0) → Stepped → Type 0
 KeepsBytes P (InPlace s) = P (string_bytes s)
 KeepsBytes P (Rewritten s) = ⊤

@@ -12,13 +12,13 @@ use Rattle.jsonptr_value.specs.declared.from_text.ReadError.{ReadError}
 use Rattle.jsonptr_value.specs.declared.from_text.ReadError.TheVariants as unread
 use Rattle.jsonptr.specs.Assign.{RefusesAssign}
 use Rattle.jsonptr.specs.declared.assign.Error.{Error as AssignError}
-use Rattle.jsonptr_text_step.specs.declared.edited.Edited.{Edited}
-use Rattle.jsonptr_text_step.specs.declared.edited.Edited.TheVariants.{InPlace, Rewritten}
-use Rattle.jsonptr_text_step.specs.declared.edited.EditError.{EditError}
-use Rattle.jsonptr_text_step.specs.declared.edited.EditError.TheVariants.{NotJson, Refused, TooDeep, Memory}
+use Rattle.jsonptr_text_step.specs.declared.stepped.Stepped.{Stepped}
+use Rattle.jsonptr_text_step.specs.declared.stepped.Stepped.TheVariants.{InPlace, Rewritten}
+use Rattle.jsonptr_text_step.specs.declared.stepped.StepError.{StepError}
+use Rattle.jsonptr_text_step.specs.declared.stepped.StepError.TheVariants.{NotJson, Refused, TooDeep, Memory}
 
 -- `edited_text e`: the text of the edited document
-abbrev pub edited_text : Edited → Text
+abbrev pub edited_text : Stepped → Text
 edited_text (InPlace s) = string_bytes s
 edited_text (Rewritten s) = string_bytes s
 
@@ -36,7 +36,7 @@ IsTooDeep m = NestsWithin max_depth m → ⊥
 -- `IsAssignError old tokens v e`: `e` is why assigning `v` at the tokens in the text `old` fails, unless an allocation
 -- failed. Of a value `v` whose keys are sorted, as those of each value that is read, `TooDeep` says that the new
 -- document is too deep
-abbrev pub IsAssignError : Text → List Text → Data → EditError AssignError → Type 0
+abbrev pub IsAssignError : Text → List Text → Data → StepError AssignError → Type 0
 IsAssignError old tokens v NotJson = read old ≡ None
 IsAssignError old tokens v (Refused e) = (d : Data) × (read old ≡ Some d) × RefusesAssign (nodes d) tokens e
 IsAssignError old tokens v TooDeep =
@@ -56,6 +56,6 @@ abbrev pub LacksInText : Text → List Text → Type 0
 LacksInText old tokens = (d : Data) × (read old ≡ Some d) × ((w : Path) → Names (nodes d) tokens w → ⊥)
 
 -- `edit_of_read e`: the error of editing a text that is not read because of `e`
-abbrev pub edit_of_read : {E : Type 0} → ReadError → EditError E
+abbrev pub edit_of_read : {E : Type 0} → ReadError → StepError E
 edit_of_read unread.NotJson = NotJson
 edit_of_read (unread.Memory e) = Memory e

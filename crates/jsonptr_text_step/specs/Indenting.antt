@@ -4,7 +4,7 @@ use Rattle.json.specs.Lex.{tokens}
 use Rattle.serde_json.specs.Data.{Data}
 use Rattle.serde_json.specs.Read.{read}
 use Rattle.jsonptr.specs.Text.{Text}
-use Rattle.jsonptr_json_edits.specs.Spacing.{IsBlank}
+use Rattle.jsonptr_text_piece.specs.Spacing.{IsBlank}
 use Rattle.jsonptr_value.specs.declared.from_text.ReadError.{ReadError}
 use Rattle.jsonptr_value.specs.declared.from_text.ReadError.TheVariants as unread
 use Rattle.jsonptr_text_step.specs.declared.indent.IndentError.{IndentError}

@@ -6,10 +6,10 @@ use Rattle.jsonptr.specs.Text.{Text}
 use Rattle.jsonptr_text_resolve.specs.InText.{FindsInText, RefusesInText}
 use Rattle.jsonptr_text_resolve.specs.declared.resolve.InTextError.{InTextError}
 use Rattle.jsonptr_text_resolve.specs.declared.resolve.InTextError.TheVariants as in_text
-use Rattle.jsonptr_json_edits.specs.Child.{IsValueText}
+use Rattle.jsonptr_text_check.specs.Child.{IsValueText}
 use Rattle.jsonptr_text_step.specs.Placing.{IsAt}
-use Rattle.jsonptr_text_step.specs.declared.find.LocateError.{LocateError}
-use Rattle.jsonptr_text_step.specs.declared.find.LocateError.TheVariants.{NotJson, Resolve, NotLocated, Memory}
+use Rattle.jsonptr_text_step.specs.declared.located.LocateError.{LocateError}
+use Rattle.jsonptr_text_step.specs.declared.located.LocateError.TheVariants.{NotJson, Resolve, NotLocated, Memory}
 
 -- `IsLocated text tokens before piece after`: `text` is `before`, `piece` and `after`, and `piece` is the text of the value that
 -- `tokens` identify in the document of `text`

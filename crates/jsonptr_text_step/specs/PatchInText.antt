@@ -16,8 +16,8 @@ use Rattle.jsonptr_patch.specs.declared.comparison.Comparison.TheVariants.{Numer
 use Rattle.jsonptr_patch.specs.declared.failed_operation.FailedOperation.{FailedOperation}
 use Rattle.jsonptr_text_step.specs.Bytes.{ReplacesBytes, AddsBytes, child_text, DeletesBytes}
 use Rattle.jsonptr_text_step.specs.EditInText.{IsTooDeep}
-use Rattle.jsonptr_text_step.specs.declared.edited.EditError.{EditError}
-use Rattle.jsonptr_text_step.specs.declared.edited.EditError.TheVariants.{NotJson, Refused, TooDeep, Memory}
+use Rattle.jsonptr_text_step.specs.declared.stepped.StepError.{StepError}
+use Rattle.jsonptr_text_step.specs.declared.stepped.StepError.TheVariants.{NotJson, Refused, TooDeep, Memory}
 
 -- `PatchesInText old os new`: the texts read as documents, and the operations `os` turn the first into the second. Tests
 -- compare numbers by their values
@@ -63,7 +63,7 @@ PatchBytes old (o ∷ os) new = (mid : Text) × OperationBytes old o mid × Patc
 
 -- `IsPatchError text os e`: `e` is why applying the operations `os` in the text fails, unless an allocation failed.
 -- `TooDeep` says that the new document is too deep, if the keys of their values are sorted
-abbrev pub IsPatchError : Text → List Operation → EditError FailedOperation → Type 0
+abbrev pub IsPatchError : Text → List Operation → StepError FailedOperation → Type 0
 IsPatchError text os NotJson = read text ≡ None
 IsPatchError text os (Refused f) = (d : Data) × (read text ≡ Some d) × FailsBy Numeric (nodes d) os f
 IsPatchError text os TooDeep =

@@ -3,7 +3,7 @@ use Rattle.std.specs.Prelude.{List, ◌++◌}
 use Rattle.jsonptr.specs.Text.{Text}
 use Rattle.jsonptr_text_search.specs.Search.{Choice}
 use Rattle.jsonptr_text_resolve.specs.Selecting.{AreChoicesOf}
-use Rattle.jsonptr_json_edits.specs.Leading.{BeginsAt}
+use Rattle.jsonptr_text_check.specs.Leading.{BeginsAt}
 
 -- `IsAt text tokens piece after`: in the JSON tokens of `text`, the pointer with the tokens `tokens` leads to those of
 -- `piece ++ after`, which begin with those of `piece`, one for one. So `piece` is the own text of that value: no equal value

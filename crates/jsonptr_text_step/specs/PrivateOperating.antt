@@ -9,7 +9,7 @@ use Rattle.jsonptr.specs.Resolve.{PutsAt}
 use Rattle.jsonptr_text_search.specs.Search.{Choice}
 use Rattle.jsonptr_text_resolve.specs.InText.{FindsInText}
 use Rattle.jsonptr_text_resolve.specs.Selecting.{IsChoiceOf, AreChoicesOf}
-use Rattle.jsonptr_json_edits.specs.Editing.{AddsElement}
+use Rattle.jsonptr_text_check.specs.Editing.{AddsElement}
 use Rattle.jsonptr_patch.specs.Adding.{Adds}
 use Rattle.jsonptr_patch.specs.Operating.{AppliesBy, Moves, Copies}
 use Rattle.jsonptr_patch.specs.declared.operation.Operation.{Operation}

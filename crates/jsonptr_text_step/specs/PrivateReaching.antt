@@ -5,17 +5,17 @@ use Rattle.json.specs.Lex.{tokens as lexed}
 use Rattle.serde_json.specs.Data.{Data, array, Items}
 use Rattle.serde_json.specs.Read.{read}
 use Rattle.jsonptr_text_search.specs.Search.{Choice, items_count}
-use Rattle.jsonptr_json_edits.specs.Child.{IsValueText, value_part}
-use Rattle.jsonptr_json_edits.specs.Leading.{BeginsAt}
-use Rattle.jsonptr_json_edits.specs.Spacing.{IsTrimmed, Splices}
-use Rattle.jsonptr_json_edits.specs.declared.edit.Edit.TheVariants.{Replace}
-use Rattle.jsonptr_json_edits.specs.Editing.{AddsChosenMember, InsertsItem}
+use Rattle.jsonptr_text_check.specs.Child.{IsValueText, value_part}
+use Rattle.jsonptr_text_check.specs.Leading.{BeginsAt}
+use Rattle.jsonptr_text_piece.specs.Spacing.{IsTrimmed, Splices}
+use Rattle.jsonptr_text_check.specs.declared.change.Change.TheVariants.{Replace}
+use Rattle.jsonptr_text_check.specs.Editing.{AddsChosenMember, InsertsItem}
 use Rattle.jsonptr.specs.Text.{Text, dec}
 use Rattle.jsonptr.specs.Node.{Path, Names}
 use Rattle.jsonptr.specs.Content.{content_at}
 use Rattle.jsonptr.specs.Json.{content, nodes}
 use Rattle.jsonptr.specs.Put.{put}
-use Rattle.jsonptr_text_step.specs.declared.replace.ValueEdit.{ValueEdit}
+use Rattle.jsonptr_text_step.specs.declared.replace.ValueChange.{ValueChange}
 use Rattle.jsonptr_text_step.specs.Bytes.{IsScalar, ReplacesBytes, AddsPiece, AddsBytes, child_text}
 
 -- `Reached R d d2 tokens`: the tokens name a path of `d`, and `d2` is `d` with another value there, which `R` relates to the old
@@ -41,10 +41,10 @@ ReplacesCut middle piece d d2 = (read middle ≡ Some d) × (read piece ≡ Some
 
 -- `IsValueEdit middle flat made`: the edit replaces the text `middle`, without white space around it, by the text `flat`, whose
 -- tokens the piece has, without white space around them
-pub record IsValueEdit (middle flat : Text) (made : ValueEdit) : Type 0 where
+pub record IsValueEdit (middle flat : Text) (made : ValueChange) : Type 0 where
   pub before : String Global
   pub after : String Global
-  pub edit : made.edit ≡ Replace before after
+  pub change : made.change ≡ Replace before after
   pub old : string_bytes before ≡ middle
   pub new : string_bytes after ≡ flat
   pub trimmed : IsTrimmed middle

@@ -5,10 +5,10 @@ use Rattle.serde_json.specs.Read.{read}
 use Rattle.jsonptr.specs.Text.{Text}
 use Rattle.jsonptr.specs.Node.{key, Path, an_object, NodeMap, Names}
 use Rattle.jsonptr.specs.Json.{nodes}
-use Rattle.jsonptr_json_edits.specs.Child.{IsValueText}
+use Rattle.jsonptr_text_check.specs.Child.{IsValueText}
 use Rattle.jsonptr_text_step.specs.Renaming.{IsMember, RefusesRename}
-use Rattle.jsonptr_text_step.specs.declared.edited.EditError.{EditError}
-use Rattle.jsonptr_text_step.specs.declared.edited.EditError.TheVariants.{NotJson, Refused, TooDeep, Memory}
+use Rattle.jsonptr_text_step.specs.declared.stepped.StepError.{StepError}
+use Rattle.jsonptr_text_step.specs.declared.stepped.StepError.TheVariants.{NotJson, Refused, TooDeep, Memory}
 use Rattle.jsonptr_text_step.specs.declared.rename.RenameError.{RenameError}
 
 -- `IsThere n tokens`: `tokens` name a path of `n`
@@ -34,7 +34,7 @@ pub record IsTarget (n : NodeMap) (tokens : List Text) (k : Text) (target : List
   pub free : (k ≡ member.x → ⊥) → n (member.path ++ key k ∷ []) ≡ None
 
 -- `IsTargetError n tokens k e`: `e` is why it cannot, unless an allocation failed
-abbrev pub IsTargetError : NodeMap → List Text → Text → EditError RenameError → Type 0
+abbrev pub IsTargetError : NodeMap → List Text → Text → StepError RenameError → Type 0
 IsTargetError n tokens k NotJson = ⊥
 IsTargetError n tokens k (Refused e) = RefusesRename n tokens k e
 IsTargetError n tokens k TooDeep = ⊥

@@ -3,8 +3,8 @@ use Rattle.std.specs.Prelude.{◌≡◌, ◌⊎◌, ◌<◌, List, ◌++◌, len
 use Rattle.serde_json.specs.Data.{Data, depth}
 use Rattle.serde_json.specs.Read.{max_depth}
 use Rattle.jsonptr.specs.Text.{Text}
-use Rattle.jsonptr_text_step.specs.declared.edited.EditError.{EditError}
-use Rattle.jsonptr_text_step.specs.declared.edited.EditError.TheVariants.{NotJson, Refused, TooDeep, Memory}
+use Rattle.jsonptr_text_step.specs.declared.stepped.StepError.{StepError}
+use Rattle.jsonptr_text_step.specs.declared.stepped.StepError.TheVariants.{NotJson, Refused, TooDeep, Memory}
 
 -- `IsShortened tokens front`: `front` are the tokens, or the first 128 of more
 abbrev pub IsShortened : List Text → List Text → Type 0
@@ -13,7 +13,7 @@ IsShortened tokens front =
     ⊎ ((rest : List Text) × (tokens ≡ front ++ rest) × (max_depth < length front))
 
 -- `IsPrintError d e`: `e` is why the document `d` is not printed, unless an allocation failed
-abbrev pub IsPrintError : {E : Type 0} → Data → EditError E → Type 0
+abbrev pub IsPrintError : {E : Type 0} → Data → StepError E → Type 0
 IsPrintError d NotJson = ⊥
 IsPrintError d (Refused e) = ⊥
 IsPrintError d TooDeep = max_depth < depth d

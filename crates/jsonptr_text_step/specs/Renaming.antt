@@ -7,11 +7,11 @@ use Rattle.jsonptr.specs.Node.{key, Path, an_object, NodeMap, Names}
 use Rattle.jsonptr.specs.Json.{nodes}
 use Rattle.jsonptr_text_resolve.specs.InText.{FindsInText}
 use Rattle.jsonptr_patch.specs.Operating.{Moves}
-use Rattle.jsonptr_json_edits.specs.Spacing.{IsSpaced, Splices}
-use Rattle.jsonptr_json_edits.specs.Child.{IsValueText}
+use Rattle.jsonptr_text_piece.specs.Spacing.{IsSpaced, Splices}
+use Rattle.jsonptr_text_check.specs.Child.{IsValueText}
 use Rattle.jsonptr_text_step.specs.Placing.{IsAt}
-use Rattle.jsonptr_text_step.specs.declared.edited.EditError.{EditError}
-use Rattle.jsonptr_text_step.specs.declared.edited.EditError.TheVariants.{NotJson, Refused, TooDeep, Memory}
+use Rattle.jsonptr_text_step.specs.declared.stepped.StepError.{StepError}
+use Rattle.jsonptr_text_step.specs.declared.stepped.StepError.TheVariants.{NotJson, Refused, TooDeep, Memory}
 use Rattle.jsonptr_text_step.specs.declared.rename.RenameError.{RenameError}
 use Rattle.jsonptr_text_step.specs.declared.rename.RenameError.TheVariants.{NotThere, NotAMember, KeyTaken}
 
@@ -75,7 +75,7 @@ RefusesRename n tokens k KeyTaken =
 
 -- `IsRenameError old tokens k e`: `e` is why renaming the member in the text `old` fails, unless an allocation failed. It is never
 -- `TooDeep`
-abbrev pub IsRenameError : Text → List Text → Text → EditError RenameError → Type 0
+abbrev pub IsRenameError : Text → List Text → Text → StepError RenameError → Type 0
 IsRenameError old tokens k NotJson = read old ≡ None
 IsRenameError old tokens k (Refused e) = (d : Data) × (read old ≡ Some d) × RefusesRename (nodes d) tokens k e
 IsRenameError old tokens k TooDeep = ⊥

@@ -6,18 +6,18 @@ ghost use Rattle.jsonptr_text_step.specs.Steps.{AddsInText, AddsAtByText};
 ghost use Rattle.jsonptr_text_step.specs.PrivateOperating.{AreMemberChoices};
 ghost use Rattle.jsonptr_text_step.specs.PrivateReaching.{AddsByText};
 
-use crate::edit::{ValueEditAt, put_value};
+use crate::change_at::{ValueChangeAt, put_value};
+use crate::front::child_selectors;
 use crate::insert::{add_member, append, insert};
-use crate::lead::child_selectors;
-use crate::place::Site;
-use crate::plan::{Made, Plan, Replaced};
+use crate::plan::{Made, Plan, ReplacedValue};
 use crate::replace::{replace_at, value_edit};
+use crate::site::Site;
 use jsonptr::{Pointer, Token};
-use jsonptr_json_edits::buffers::Buffers;
-use jsonptr_json_edits::cut::cut_at;
-use jsonptr_json_edits::edit::EditAt;
-use jsonptr_json_edits::locate::place_of;
-use jsonptr_json_edits::value_text::ValueText;
+use jsonptr_text_check::change::ChangeAt;
+use jsonptr_text_layout::place::place_of;
+use jsonptr_text_layout::value_text::ValueText;
+use jsonptr_text_piece::buffers::Buffers;
+use jsonptr_text_piece::cut::cut_at;
 use jsonptr_text_resolve::selectors::selectors_of;
 use jsonptr_text_search::selector::Selector;
 use jsonptr_walk::put::key_of;
@@ -103,20 +103,20 @@ fn replace_member(
     };
     let selectors = member_selectors(alloc, site.pointer, token)?;
     let path = child_selectors(alloc, site.pointer, token)?;
-    let edit = EditAt {
+    let change = ChangeAt {
         selectors: &selectors,
         positions: &site.place.positions,
-        edit: &made.edit,
+        change: &made.change,
     };
-    let at = ValueEditAt {
-        edit,
+    let at = ValueChangeAt {
+        change,
         path: &path,
         piece: made.piece.as_str(),
     };
     let Some(text) = put_value(buffers, &cut, at)? else {
         return Ok(None);
     };
-    let plan = Plan::Replaced(Replaced {
+    let plan = Plan::Replaced(ReplacedValue {
         value: span,
         depth: site.place.depth,
         piece: made.piece,

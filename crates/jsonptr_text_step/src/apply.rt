@@ -7,7 +7,7 @@ ghost use Rattle.jsonptr_text_value.specs.Operations.{operations_in};
 ghost use Rattle.jsonptr_text_step.specs.RawPatching.{RawPatchBytes};
 
 use crate::operate::operate;
-use jsonptr_json_edits::buffers::Buffers;
+use jsonptr_text_piece::buffers::Buffers;
 use jsonptr_text_resolve::is_document;
 use jsonptr_text_value::RawOperation;
 use std::alloc::AllocError;

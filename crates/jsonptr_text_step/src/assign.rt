@@ -8,15 +8,15 @@ ghost use Rattle.jsonptr_text_step.specs.EditInText.{edited_text, AssignsInText,
 ghost use Rattle.jsonptr_text_step.specs.Giving.{AssignsGiven};
 ghost use Rattle.jsonptr_text_step.specs.PrivateGiving.{ReplacesWith, AddsWith, ExpandsWith};
 
-use crate::edited::{EditError, Edited};
 use crate::insert::{add_member, append};
-use crate::place::Site;
 use crate::plan::Made;
 use crate::replace::{replace, replace_scalar};
 use crate::rewrite::assign_and_print;
+use crate::site::Site;
+use crate::stepped::{StepError, Stepped};
 use jsonptr::{Pointer, Token, assign};
-use jsonptr_json_edits::buffers::Buffers;
-use jsonptr_json_edits::locate::place_of;
+use jsonptr_text_layout::place::place_of;
+use jsonptr_text_piece::buffers::Buffers;
 use jsonptr_text_resolve::selectors::selectors_of;
 use jsonptr_text_value::{RawValue, expanded_text};
 use std::alloc::AllocError;
@@ -33,7 +33,7 @@ use std::alloc::AllocError;
 /// name nothing yet, the arrays and objects that are made are around it.
 ///
 /// The new text is read side by side with the old one before it is returned. If that fails, the
-/// document is read, changed and printed, and the result is [`Edited::Rewritten`].
+/// document is read, changed and printed, and the result is [`Stepped::Rewritten`].
 ///
 /// Reads the old text and the new one two to four times each, and allocates for both texts, for
 /// their unescaped strings, and for the value. `buffers` keep their memory from text to text: the unescaped
@@ -42,10 +42,10 @@ use std::alloc::AllocError;
 ///
 /// # Errors
 ///
-/// - [`EditError::NotJson`] if `serde_json` does not read the text.
-/// - [`EditError::Refused`] with the error of `assign`, if no value can be assigned at the pointer.
-/// - [`EditError::TooDeep`] if the new document nests deeper than 127.
-/// - [`EditError::Memory`] if an allocation fails.
+/// - [`StepError::NotJson`] if `serde_json` does not read the text.
+/// - [`StepError::Refused`] with the error of `assign`, if no value can be assigned at the pointer.
+/// - [`StepError::TooDeep`] if the new document nests deeper than 127.
+/// - [`StepError::Memory`] if an allocation fails.
 ///
 /// # Examples
 ///
@@ -62,7 +62,7 @@ pub fn assign_in_text(
     text: &str,
     pointer: Pointer<'_>,
     raw: &RawValue,
-) -> Result<Edited, EditError<assign::Error>>
+) -> Result<Stepped, StepError<assign::Error>>
     ensures assigned { IfOk result (λ e. AssignsInText text.now (tokens pointer.entry)
         (nodes (value_of_raw raw.now)) (edited_text e)) }
     ensures bytes { IfOk result
@@ -73,11 +73,11 @@ pub fn assign_in_text(
         (value_of_raw raw.now)) }
 {
     if let Some(new) = assign_at(buffers, text, pointer, raw)? {
-        return Ok(Edited::InPlace(new.text));
+        return Ok(Stepped::InPlace(new.text));
     }
     let alloc = buffers.alloc;
     let new = assign_and_print(alloc, text, pointer, raw.to_value(alloc)?)?;
-    Ok(Edited::Rewritten(new))
+    Ok(Stepped::Rewritten(new))
 }
 
 /// Assigns the value at the pointer in the text, with one piece of the text replaced. Returns `None`

@@ -2,10 +2,10 @@
 ghost use Rattle.std.specs.Prelude.{◌≡◌, [], false, IfOk, IfErr, IfSome, IsTrue, MatchOption};
 ghost use Rattle.jsonptr_text_step.specs.Locating.{IsLocatedAt, IsOutside, Contains, IsLocateError};
 
-use crate::find::{LocateError, Located, locate};
+use crate::located::{LocateError, Located, locate};
 use json::Reader;
 use jsonptr::{Pointer, PointerBuf};
-use jsonptr_json_edits::buffers::Buffers;
+use jsonptr_text_piece::buffers::Buffers;
 use jsonptr_text_resolve::path::Path;
 use std::alloc::AllocError;
 

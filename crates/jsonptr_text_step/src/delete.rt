@@ -6,16 +6,16 @@ ghost use Rattle.jsonptr_value.specs.Reading.{IsReadError};
 ghost use Rattle.jsonptr_text_step.specs.Bytes.{KeepsBytes, DeletesBytes, ReplacesBytes};
 ghost use Rattle.jsonptr_text_step.specs.EditInText.{edited_text, DeletesInText, LacksInText};
 
-use crate::edited::Edited;
-use crate::place::Site;
 use crate::plan::Made;
 use crate::remove::cut_children;
 use crate::replace::replace_at;
 use crate::rewrite::delete_and_print;
-use crate::value_text::value_text;
+use crate::shallow::value_text;
+use crate::site::Site;
+use crate::stepped::Stepped;
 use jsonptr::Pointer;
-use jsonptr_json_edits::buffers::Buffers;
-use jsonptr_json_edits::locate::place_at;
+use jsonptr_text_layout::place::place_at;
+use jsonptr_text_piece::buffers::Buffers;
 use jsonptr_text_resolve::selectors::selectors_of;
 use jsonptr_value::ReadError;
 use serde_json::Value;
@@ -29,7 +29,7 @@ use std::alloc::AllocError;
 /// to light. The last child leaves `{}` or `[]`. Deleting the root leaves `null`.
 ///
 /// The new text is read side by side with the old one before it is returned. If that fails, the
-/// document is read, changed and printed, and the result is [`Edited::Rewritten`].
+/// document is read, changed and printed, and the result is [`Stepped::Rewritten`].
 ///
 /// Reads the old text four or five times and the new one once, and allocates for both texts and for
 /// their unescaped strings. `buffers` keep their memory from text to text.
@@ -52,7 +52,7 @@ pub fn delete_in_text(
     buffers: &mut Buffers,
     text: &str,
     pointer: Pointer<'_>,
-) -> Result<Option<Edited>, ReadError>
+) -> Result<Option<Stepped>, ReadError>
     ensures deleted { IfOk result (λ o. MatchOption o (LacksInText text.now (tokens pointer.entry))
         (λ e. DeletesInText text.now (tokens pointer.entry) (edited_text e))) }
     ensures bytes { IfOk result (λ o. IfSome o
@@ -60,10 +60,10 @@ pub fn delete_in_text(
     ensures refused { IfErr result (IsReadError text.now) }
 {
     if let Some(new) = cut_out(buffers, text, pointer)? {
-        return Ok(Some(Edited::InPlace(new.text)));
+        return Ok(Some(Stepped::InPlace(new.text)));
     }
     match delete_and_print(buffers.alloc, text, pointer)? {
-        Some(new) => Ok(Some(Edited::Rewritten(new))),
+        Some(new) => Ok(Some(Stepped::Rewritten(new))),
         None => Ok(None),
     }
 }

@@ -3,9 +3,9 @@ ghost use Rattle.std.specs.Prelude.{◌≡◌, IfOk, IfErr, IfSome, string_bytes
 ghost use Rattle.json.specs.Lex.{tokens as lexed};
 ghost use Rattle.jsonptr_text_step.specs.Indenting.{IsIndented, IsIndentError, indent_of_read};
 
-use jsonptr_json_edits::buffers::Buffers;
-use jsonptr_json_edits::child::is_value_of;
-use jsonptr_json_edits::spacing::are_blank;
+use jsonptr_text_check::one_child::is_value_of;
+use jsonptr_text_piece::buffers::Buffers;
+use jsonptr_text_piece::spacing::are_blank;
 use jsonptr_text_resolve::{Format, format_text};
 use jsonptr_value::ReadError;
 use std::alloc::{AllocError, Global};

@@ -4,24 +4,25 @@ ghost use Rattle.jsonptr.specs.Pointer.{tokens};
 ghost use Rattle.jsonptr.specs.Text.{dec};
 ghost use Rattle.jsonptr_text_resolve.specs.Selecting.{IsChoiceOf};
 ghost use Rattle.jsonptr_text_search.specs.Search.{choice_of};
-ghost use Rattle.jsonptr_json_edits.specs.Editing.{Makes};
+ghost use Rattle.jsonptr_text_check.specs.Editing.{Makes};
 ghost use Rattle.jsonptr_text_step.specs.PrivateOperating.{ElementInserted};
 ghost use Rattle.jsonptr_text_step.specs.PrivateReaching.{ReachedInText, MemberAdded, ElementAppended, AddsPieceByText, AddsByText};
 
-use crate::edit::{EditAtPointer, edit_at};
-use crate::lead::{ChildAt, Front, is_child_after};
-use crate::place::Site;
-use crate::plan::{Added, Made, Plan};
+use crate::change_at::{ChangeAtPointer, edit_at};
+use crate::front::{ChildAt, Front, is_child_after};
+use crate::plan::{AddedChild, Made, Plan};
+use crate::site::Site;
 use jsonptr::Token;
 use jsonptr::index::Index;
-use jsonptr_json_edits::buffers::Buffers;
-use jsonptr_json_edits::child::one_child;
-use jsonptr_json_edits::cut::cut_at;
-use jsonptr_json_edits::edit::{Child, Edit};
-use jsonptr_json_edits::layout::{Container, Piece, addition};
-use jsonptr_json_edits::locate::children_of;
-use jsonptr_json_edits::spacing::is_blank;
-use jsonptr_json_edits::value_text::ValueText;
+use jsonptr_text_check::change::{Change, ChildValue};
+use jsonptr_text_check::one_child::one_child;
+use jsonptr_text_layout::layout::{Container, addition};
+use jsonptr_text_layout::place::children_of;
+use jsonptr_text_layout::value_text::ValueText;
+use jsonptr_text_piece::buffers::Buffers;
+use jsonptr_text_piece::cut::cut_at;
+use jsonptr_text_piece::piece::Piece;
+use jsonptr_text_piece::spacing::is_blank;
 use jsonptr_text_resolve::selectors::selector_of;
 use jsonptr_text_search::selector::Selector;
 use serde_json::Value;
@@ -60,17 +61,17 @@ pub fn add_member(
     };
     let piece = addition(alloc, container, position, Some(quoted.as_str()), printed)?;
     let name = Some(key.as_str());
-    let new = NewChild {
+    let new = ChildPiece {
         piece: &piece,
         key: name,
         value: printed.flat.as_str(),
         token,
         position,
     };
-    let Some(text) = put_child(buffers, site, new, &Edit::Add(child))? else {
+    let Some(text) = put_child(buffers, site, new, &Change::Add(child))? else {
         return Ok(None);
     };
-    let plan = Plan::Added(Added {
+    let plan = Plan::Added(AddedChild {
         container: site.place.value,
         children: members,
         position,
@@ -113,17 +114,17 @@ pub fn append(
     };
     let piece = addition(alloc, container, position, None, printed)?;
     let refers = Token::from_number(alloc, index)?;
-    let new = NewChild {
+    let new = ChildPiece {
         piece: &piece,
         key: None,
         value: printed.flat.as_str(),
         token: &refers,
         position,
     };
-    let Some(text) = put_child(buffers, site, new, &Edit::Append(child))? else {
+    let Some(text) = put_child(buffers, site, new, &Change::Append(child))? else {
         return Ok(None);
     };
-    let plan = Plan::Added(Added {
+    let plan = Plan::Added(AddedChild {
         container: site.place.value,
         children: elements,
         position,
@@ -164,17 +165,17 @@ pub fn insert(
         children: elements.as_slice(),
     };
     let piece = addition(alloc, container, index, None, printed)?;
-    let new = NewChild {
+    let new = ChildPiece {
         piece: &piece,
         key: None,
         value: printed.flat.as_str(),
         token,
         position: index,
     };
-    let Some(text) = put_child(buffers, site, new, &Edit::Insert(child))? else {
+    let Some(text) = put_child(buffers, site, new, &Change::Insert(child))? else {
         return Ok(None);
     };
-    let plan = Plan::Added(Added {
+    let plan = Plan::Added(AddedChild {
         container: site.place.value,
         children: elements,
         position: index,
@@ -185,7 +186,7 @@ pub fn insert(
 
 /// A child that is put into an array or an object.
 #[derive(Clone, Copy, Debug)]
-struct NewChild<'p, 'k, 'v, 't> {
+struct ChildPiece<'p, 'k, 'v, 't> {
     /// What comes into the text.
     piece: &'p Piece,
     /// Its key, if it is a member.
@@ -203,11 +204,11 @@ struct NewChild<'p, 'k, 'v, 't> {
 fn put_child(
     buffers: &mut Buffers,
     site: &Site<'_>,
-    child: NewChild<'_, '_, '_, '_>,
-    edit: &Edit,
+    child: ChildPiece<'_, '_, '_, '_>,
+    change: &Change,
 ) -> Result<Option<String>, AllocError>
     ensures reached { IfOk result (λ new. IfSome new (λ s. ReachedInText site.now.text.now
-        (string_bytes s) (tokens site.now.pointer) (Makes edit.now))) }
+        (string_bytes s) (tokens site.now.pointer) (Makes change.now))) }
     ensures bytes { IfOk result (λ new. IfSome new (λ s. AddsPieceByText site.now.text.now
         (string_bytes s) (tokens site.now.pointer ++ child.entry.token.now ∷ [])
         (option_map (λ k. k.now) child.entry.key) child.entry.value.now)) }
@@ -223,10 +224,10 @@ fn put_child(
     let Some(parts) = one_child(buffers, added, piece.child, child.key, Some(child.value))? else {
         return Ok(None);
     };
-    let at = EditAtPointer {
+    let at = ChangeAtPointer {
         pointer: site.pointer,
         positions: &site.place.positions,
-        edit,
+        change,
     };
     let Some(new) = edit_at(buffers, &cut, &at, added)? else {
         return Ok(None);
@@ -254,14 +255,14 @@ fn child_of(
     token: &Token<'_>,
     position: usize,
     printed: &ValueText,
-) -> Result<Child, AllocError>
+) -> Result<ChildValue, AllocError>
     ensures selects { IfOk result (λ child. IsChoiceOf token.now (choice_of child.selector)) }
     ensures value { IfOk result
         (λ child. string_bytes child.value ≡ string_bytes printed.now.flat) }
 {
     let selector = selector_of(alloc, token)?;
     let value = printed.flat.clone()?;
-    Ok(Child {
+    Ok(ChildValue {
         selector,
         position,
         value,
@@ -269,7 +270,7 @@ fn child_of(
 }
 
 /// Returns the element with the index and the value.
-fn element(alloc: Global, index: usize, printed: &ValueText) -> Result<Child, AllocError>
+fn element(alloc: Global, index: usize, printed: &ValueText) -> Result<ChildValue, AllocError>
     ensures index { IfOk result (λ child. child.selector.index ≡ Some index) }
     ensures value { IfOk result
         (λ child. string_bytes child.value ≡ string_bytes printed.now.flat) }
@@ -279,7 +280,7 @@ fn element(alloc: Global, index: usize, printed: &ValueText) -> Result<Child, Al
         index: Some(index),
     };
     let value = printed.flat.clone()?;
-    Ok(Child {
+    Ok(ChildValue {
         selector,
         position: index,
         value,

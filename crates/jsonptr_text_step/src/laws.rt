@@ -4,7 +4,7 @@ ghost use Rattle.serde_json.specs.Data.{Data};
 ghost use Rattle.jsonptr.specs.Text.{Text};
 ghost use Rattle.jsonptr_text_resolve.specs.InText.{FindsInText};
 ghost use Rattle.jsonptr_io.specs.Lines.{IsOneLine};
-ghost use Rattle.jsonptr_json_edits.specs.Spacing.{IsBlank, Splices};
+ghost use Rattle.jsonptr_text_piece.specs.Spacing.{IsBlank, Splices};
 ghost use Rattle.jsonptr_text_step.specs.Bytes.{AddsPiece, CutsBytes, ReplacesBytes};
 ghost use Rattle.jsonptr_text_step.specs.PatchInText.{PatchBytes};
 ghost use Rattle.jsonptr_text_value.specs.Operations.{operations_in};

@@ -20,7 +20,7 @@
 //!   [`indent_text`] the same tokens on lines.
 //! - [`laws`] states that the bytes of an edit can be put back.
 //!
-//! Each edit makes two promises, the second one if the result is [`Edited::InPlace`]:
+//! Each edit makes two promises, the second one if the result is [`Stepped::InPlace`]:
 //!
 //! - *Meaning*: the new text reads as the document that the call on documents makes of the document
 //!   that the old text reads as.
@@ -39,39 +39,39 @@ mod add;
 mod apply;
 mod assign;
 mod at_offset;
+mod change_at;
 mod delete;
-mod edit;
-mod edited;
-mod find;
+mod front;
 mod indent;
 mod insert;
 pub mod laws;
-mod lead;
+mod located;
 mod one_line;
 mod operate;
-mod place;
 pub mod plan;
 mod remove;
 mod rename;
 mod rename_document;
 mod replace;
 mod rewrite;
+mod shallow;
+mod site;
 mod step;
+mod stepped;
 mod value_at;
-mod value_text;
 
 pub use apply::apply_in_text;
 pub use assign::assign_in_text;
 pub use at_offset::{PointerAt, pointer_at};
 pub use delete::delete_in_text;
-pub use edited::{EditError, Edited};
-pub use find::{LocateError, Located, locate};
 pub use indent::{IndentError, indent_text};
-pub use jsonptr_json_edits::buffers::Buffers;
+pub use jsonptr_text_piece::buffers::Buffers;
 pub use jsonptr_text_value::{PatchText, RawOperation, RawValue};
 pub use jsonptr_value::ReadError;
+pub use located::{LocateError, Located, locate};
 pub use one_line::stays_one_line;
 pub use operate::passes;
 pub use rename::{RenameError, rename_in_text};
 pub use rewrite::apply_and_print;
 pub use step::{Step, take_step};
+pub use stepped::{StepError, Stepped};

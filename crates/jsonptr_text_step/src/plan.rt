@@ -1,7 +1,8 @@
 //! What an edit did to a text.
 
-use jsonptr_json_edits::layout::Piece;
-use jsonptr_json_edits::locate::{Extent, Span};
+use jsonptr_text_piece::child::Child;
+use jsonptr_text_piece::piece::Piece;
+use jsonptr_text_piece::span::Span;
 
 /// A text after an edit, and what the edit did to the text before. It owns both.
 #[derive(Debug, Drop)]
@@ -18,18 +19,18 @@ pub enum Plan {
     /// The text is unchanged.
     Unchanged,
     /// A value was replaced.
-    Replaced(Replaced),
+    Replaced(ReplacedValue),
     /// A child was put into an array or an object.
-    Added(Added),
+    Added(AddedChild),
     /// A child was cut out of an array or an object.
-    Removed(Removed),
+    Removed(RemovedChild),
     /// A member was renamed.
-    Renamed(Renamed),
+    Renamed(RenamedMember),
 }
 
 /// A value that was replaced.
 #[derive(Debug, Drop)]
-pub struct Replaced {
+pub struct ReplacedValue {
     /// Where the value was.
     pub value: Span,
     /// How many tokens of the pointer lead to it. The others lead no further.
@@ -40,11 +41,11 @@ pub struct Replaced {
 
 /// A child that was put into an array or an object.
 #[derive(Debug, Drop)]
-pub struct Added {
+pub struct AddedChild {
     /// Where the array or object was.
     pub container: Span,
     /// Its children before the edit.
-    pub children: Vec<Extent>,
+    pub children: Vec<Child>,
     /// The position of the child among all children, after the edit.
     pub position: usize,
     /// What came into the text.
@@ -53,11 +54,11 @@ pub struct Added {
 
 /// A child that was cut out of an array or an object.
 #[derive(Debug, Drop)]
-pub struct Removed {
+pub struct RemovedChild {
     /// Where the array or object was.
     pub container: Span,
     /// Its children before the edit.
-    pub children: Vec<Extent>,
+    pub children: Vec<Child>,
     /// The position of the child among them.
     pub position: usize,
     /// Its key, if it was a member.
@@ -68,7 +69,7 @@ pub struct Removed {
 
 /// The name of a member that was replaced.
 #[derive(Debug, Drop)]
-pub struct Renamed {
+pub struct RenamedMember {
     /// Where the name was.
     pub name: Span,
     /// The text of the new name.

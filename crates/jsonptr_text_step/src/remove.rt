@@ -2,21 +2,23 @@
 ghost use Rattle.std.specs.Prelude.{◌≡◌, [], ◌∷◌, ◌++◌, List, ℕ, Some, IfOk, IfSome, IsTrue, option_map, string_bytes};
 ghost use Rattle.serde_json.specs.Data.{Data};
 ghost use Rattle.jsonptr.specs.Pointer.{tokens};
-ghost use Rattle.jsonptr_json_edits.specs.Child.{IsReadAs};
+ghost use Rattle.jsonptr_text_check.specs.Child.{IsReadAs};
 ghost use Rattle.jsonptr_text_step.specs.Bytes.{CutsBytes, CutsInTurn, CutsMembers, CutsElement, CutsChild};
 ghost use Rattle.jsonptr_text_step.specs.EditInText.{DeletesInText};
 
-use crate::edit::{EditAtPointer, is_edited_at};
-use crate::lead::{ChildAt, Front, is_child_after};
-use crate::place::Site;
-use crate::plan::{Made, Plan, Removed};
+use crate::change_at::{ChangeAtPointer, is_edited_at};
+use crate::front::{ChildAt, Front, is_child_after};
+use crate::plan::{Made, Plan, RemovedChild};
+use crate::site::Site;
 use jsonptr::Token;
-use jsonptr_json_edits::buffers::Buffers;
-use jsonptr_json_edits::child::one_child;
-use jsonptr_json_edits::cut::{cut_at, splice};
-use jsonptr_json_edits::edit::{Child, Edit};
-use jsonptr_json_edits::layout::{Container, removal, slice};
-use jsonptr_json_edits::locate::{Extent, Span, children_of};
+use jsonptr_text_check::change::{Change, ChildValue};
+use jsonptr_text_check::one_child::one_child;
+use jsonptr_text_layout::layout::{Container, removal};
+use jsonptr_text_layout::place::children_of;
+use jsonptr_text_piece::buffers::Buffers;
+use jsonptr_text_piece::child::Child;
+use jsonptr_text_piece::cut::{cut_at, splice};
+use jsonptr_text_piece::span::{Span, slice};
 use jsonptr_text_resolve::selectors::selector_of;
 use std::alloc::AllocError;
 
@@ -91,18 +93,18 @@ fn cut_members(
         return Ok(None);
     };
     let name = String::from_str(alloc, key)?;
-    let edit = Edit::Add(Child {
+    let change = Change::Add(ChildValue {
         selector,
         position: *position,
         value: String::from_str(alloc, value)?,
     });
-    let at = EditAtPointer {
+    let at = ChangeAtPointer {
         pointer: site.pointer,
         positions: above,
-        edit: &edit,
+        change: &change,
     };
     if is_edited_at(buffers, new.as_str(), site.text, &at)? {
-        let plan = Plan::Removed(Removed {
+        let plan = Plan::Removed(RemovedChild {
             container: site.place.container,
             children: first.children,
             position: *last,
@@ -145,18 +147,18 @@ fn cut_element(
     let Some(new) = cut_child(buffers, site.text, removed)? else {
         return Ok(None);
     };
-    let edit = Edit::Insert(Child {
+    let change = Change::Insert(ChildValue {
         selector: selector_of(alloc, token)?,
         position: *position,
         value: String::from_str(alloc, value)?,
     });
-    let at = EditAtPointer {
+    let at = ChangeAtPointer {
         pointer: site.pointer,
         positions: above,
-        edit: &edit,
+        change: &change,
     };
     if is_edited_at(buffers, new.text.as_str(), site.text, &at)? {
-        let plan = Plan::Removed(Removed {
+        let plan = Plan::Removed(RemovedChild {
             container: site.place.container,
             children: new.children,
             position: *position,
@@ -251,7 +253,7 @@ struct Shorter {
     /// The text.
     text: String,
     /// The children.
-    children: Vec<Extent>,
+    children: Vec<Child>,
 }
 
 /// Cuts out the child.
@@ -269,7 +271,7 @@ fn cut_child(
     let Some(children) = children_of(buffers, text, removed.container)? else {
         return Ok(None);
     };
-    let Some(extent) = children.get(removed.at.position) else {
+    let Some(child) = children.get(removed.at.position) else {
         return Ok(None);
     };
     let there = Container {
@@ -283,8 +285,8 @@ fn cut_child(
     let Some(cut) = cut_at(text, span.from, span.to) else {
         return Ok(None);
     };
-    let extent = within(*extent, span.from);
-    let Some(parts) = one_child(buffers, cut.middle, extent, removed.key, removed.value)? else {
+    let child = within(*child, span.from);
+    let Some(parts) = one_child(buffers, cut.middle, child, removed.key, removed.value)? else {
         return Ok(None);
     };
     let place = Front {
@@ -298,12 +300,12 @@ fn cut_child(
     Ok(Some(Shorter { text, children }))
 }
 
-/// Returns the extent in a text that begins at the offset.
-fn within(extent: Extent, from: usize) -> Extent {
-    let child = Span {
-        from: extent.child.from.saturating_sub(from),
-        to: extent.child.to.saturating_sub(from),
+/// Returns the child in a text that begins at the offset.
+fn within(child: Child, from: usize) -> Child {
+    let span = Span {
+        from: child.span.from.saturating_sub(from),
+        to: child.span.to.saturating_sub(from),
     };
-    let value = extent.value.saturating_sub(from);
-    Extent { child, value }
+    let value = child.value.saturating_sub(from);
+    Child { span, value }
 }

@@ -2,9 +2,9 @@
 ghost use Rattle.std.specs.Prelude.{◌≡◌, [], ◌∷◌, ◌++◌, IfOk, IfErr, IfSome, IsTrue, string_bytes};
 ghost use Rattle.serde_json.specs.Data.{string};
 ghost use Rattle.jsonptr.specs.Pointer.{tokens};
-ghost use Rattle.jsonptr_json_edits.specs.Child.{IsValueText};
-ghost use Rattle.jsonptr_json_edits.specs.Editing.{RenamesMember};
-ghost use Rattle.jsonptr_json_edits.specs.Spacing.{IsSpaced, IsTrimmed};
+ghost use Rattle.jsonptr_text_check.specs.Child.{IsValueText};
+ghost use Rattle.jsonptr_text_check.specs.Editing.{RenamesMember};
+ghost use Rattle.jsonptr_text_piece.specs.Spacing.{IsSpaced, IsTrimmed};
 ghost use Rattle.jsonptr_text_step.specs.Bytes.{KeepsBytes};
 ghost use Rattle.jsonptr_text_step.specs.EditInText.{edited_text};
 ghost use Rattle.jsonptr_text_step.specs.Placing.{IsAt};
@@ -13,20 +13,21 @@ ghost use Rattle.jsonptr_text_step.specs.PrivateReaching.{ReachedInText};
 ghost use Rattle.jsonptr_text_step.specs.PrivateRenaming.{IsNamedAnew};
 ghost use Rattle.jsonptr_text_step.specs.Renaming.{RenamesInText, RenamesName, RenamesBytes, IsRenameError};
 
-use crate::edit::{EditAtPointer, edit_at};
-use crate::edited::{EditError, Edited};
-use crate::lead::child_selectors;
-use crate::place::Site;
-use crate::plan::{Made, Plan, Renamed};
+use crate::change_at::{ChangeAtPointer, edit_at};
+use crate::front::child_selectors;
+use crate::plan::{Made, Plan, RenamedMember};
 use crate::rename_document::{kept, rename_and_print};
+use crate::site::Site;
+use crate::stepped::{StepError, Stepped};
 use jsonptr::{Pointer, Token};
-use jsonptr_json_edits::buffers::Buffers;
-use jsonptr_json_edits::child::is_name;
-use jsonptr_json_edits::cut::Cut;
-use jsonptr_json_edits::edit::{Edit, Renaming};
-use jsonptr_json_edits::lead::{Route, leads_to};
-use jsonptr_json_edits::locate::{Span, children_of, place_at};
-use jsonptr_json_edits::member::{MemberText, member_in};
+use jsonptr_text_check::change::{Change, Renaming};
+use jsonptr_text_check::lead::{ValueAt, leads_to};
+use jsonptr_text_check::member::{MemberText, member_in};
+use jsonptr_text_check::one_child::is_name;
+use jsonptr_text_layout::place::{children_of, place_at};
+use jsonptr_text_piece::buffers::Buffers;
+use jsonptr_text_piece::cut::Cut;
+use jsonptr_text_piece::span::Span;
 use jsonptr_text_resolve::selectors::selectors_of;
 use jsonptr_text_search::decide::is_text;
 use jsonptr_walk::put::key_of;
@@ -57,7 +58,7 @@ pub enum RenameError {
 /// space around it. If it has the key already, the text is unchanged. The key is not escaped as in a pointer.
 ///
 /// The new text is read side by side with the old one before it is returned. If that fails, the document is
-/// read, changed and printed, and the result is [`Edited::Rewritten`]. So it is where the object has several
+/// read, changed and printed, and the result is [`Stepped::Rewritten`]. So it is where the object has several
 /// members with the old key: the last one counts.
 ///
 /// Reads the old text some four times and the new one twice, and allocates for both texts and for their
@@ -66,11 +67,11 @@ pub enum RenameError {
 ///
 /// # Errors
 ///
-/// - [`EditError::NotJson`] if `serde_json` does not read the text.
-/// - [`EditError::Refused`] with [`RenameError::NotThere`] if the pointer resolves to nothing,
+/// - [`StepError::NotJson`] if `serde_json` does not read the text.
+/// - [`StepError::Refused`] with [`RenameError::NotThere`] if the pointer resolves to nothing,
 ///   [`RenameError::NotAMember`] if it resolves to the root or to an element of an array, and
 ///   [`RenameError::KeyTaken`] if another member of the object has the key.
-/// - [`EditError::Memory`] if an allocation fails. It is never [`EditError::TooDeep`].
+/// - [`StepError::Memory`] if an allocation fails. It is never [`StepError::TooDeep`].
 ///
 /// # Examples
 ///
@@ -81,24 +82,24 @@ pub enum RenameError {
 /// let new = "{\n  \"width/cm\" : 1.0,\n  \"name\": \"app\"\n}\n";
 /// assert_eq!(rt; edited.as_str(), new);
 /// let taken = rename_in_text(&mut buffers, text, Pointer::parse("/size")?, "name");
-/// assert!(rt; matches!(taken, Err(EditError::Refused(RenameError::KeyTaken))));
+/// assert!(rt; matches!(taken, Err(StepError::Refused(RenameError::KeyTaken))));
 /// ```
 pub fn rename_in_text(
     buffers: &mut Buffers,
     text: &str,
     pointer: Pointer<'_>,
     key: &str,
-) -> Result<Edited, EditError<RenameError>>
+) -> Result<Stepped, StepError<RenameError>>
     ensures renamed { IfOk result
         (λ e. RenamesInText text.now (tokens pointer.entry) key.now (edited_text e)) }
     ensures bytes { IfOk result (KeepsBytes (RenamesBytes text.now (tokens pointer.entry) key.now)) }
     ensures refused { IfErr result (IsRenameError text.now (tokens pointer.entry) key.now) }
 {
     if let Some(new) = rename_at(buffers, text, pointer, key)? {
-        return Ok(Edited::InPlace(new.text));
+        return Ok(Stepped::InPlace(new.text));
     }
     let new = rename_and_print(buffers.alloc, text, pointer, key)?;
-    Ok(Edited::Rewritten(new))
+    Ok(Stepped::Rewritten(new))
 }
 
 /// Renames the member that the pointer resolves to where it is. Returns `None` if that is not
@@ -201,10 +202,10 @@ fn member_at<'t>(
     let Some(members) = children_of(buffers, site.text, site.place.container)? else {
         return Ok(None);
     };
-    let Some(extent) = members.get(*position) else {
+    let Some(member) = members.get(*position) else {
         return Ok(None);
     };
-    member_in(buffers, site.text, *extent, key)
+    member_in(buffers, site.text, *member, key)
 }
 
 /// Replaces the name, which was cut out, if that gives the member the other key.
@@ -228,18 +229,18 @@ fn replace_name(
     if !is_name(&mut buffers.old, name.as_str(), renaming.to.as_str())? {
         return Ok(None);
     }
-    let edit = Edit::Rename(renaming);
-    let at = EditAtPointer {
+    let change = Change::Rename(renaming);
+    let at = ChangeAtPointer {
         pointer: site.pointer,
         positions: above,
-        edit: &edit,
+        change: &change,
     };
     let Some(text) = edit_at(buffers, cut, &at, name.as_str())? else {
         return Ok(None);
     };
     let from = cut.before.len();
     let to = from.saturating_add(cut.middle.len());
-    let plan = Plan::Renamed(Renamed {
+    let plan = Plan::Renamed(RenamedMember {
         name: Span { from, to },
         piece: name,
     });
@@ -272,7 +273,7 @@ fn leads_to_member(
 {
     let alloc = buffers.alloc;
     let selectors = child_selectors(alloc, renamed.site.pointer, renamed.token)?;
-    let route = Route {
+    let route = ValueAt {
         selectors: &selectors,
         positions: &renamed.site.place.positions,
         value: renamed.member.value,

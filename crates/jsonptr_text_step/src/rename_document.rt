@@ -9,10 +9,10 @@ ghost use Rattle.jsonptr_patch.specs.declared.operation.Operation.TheVariants.{M
 ghost use Rattle.jsonptr_text_step.specs.PrivateRenaming.{IsThere, IsObjectAt, IsMemberOf, IsMemberInText, IsTarget, IsTargetError};
 ghost use Rattle.jsonptr_text_step.specs.Renaming.{IsMember, RenamesInText, IsRenameError};
 
-use crate::edited::EditError;
 use crate::plan::{Made, Plan};
 use crate::rename::RenameError;
 use crate::rewrite::print_document;
+use crate::stepped::StepError;
 use jsonptr::{Fault, Pointer, PointerBuf, Resolve, Token};
 use jsonptr_patch::{Operation, apply};
 use jsonptr_text_search::decide::is_text;
@@ -32,7 +32,7 @@ pub fn rename_and_print(
     text: &str,
     pointer: Pointer<'_>,
     key: &str,
-) -> Result<String, EditError<RenameError>>
+) -> Result<String, StepError<RenameError>>
     ensures renamed { IfOk result
         (λ s. RenamesInText text.now (tokens pointer.entry) key.now (string_bytes s)) }
     ensures refused { IfErr result (IsRenameError text.now (tokens pointer.entry) key.now) }
@@ -43,7 +43,7 @@ pub fn rename_and_print(
     match apply(alloc, &mut document, patch) {
         Ok(()) => print_document(alloc, document),
         Err(Fault::Refused(_)) => unreachable!(),
-        Err(Fault::Memory(error)) => Err(EditError::Memory(error)),
+        Err(Fault::Memory(error)) => Err(StepError::Memory(error)),
     }
 }
 
@@ -87,23 +87,23 @@ pub fn kept(alloc: Global, text: &str, pointer: Pointer<'_>) -> Result<Option<Ma
 ///
 /// # Errors
 ///
-/// [`EditError::Refused`] if the member cannot get the key, and [`EditError::Memory`] if an allocation fails.
+/// [`StepError::Refused`] if the member cannot get the key, and [`StepError::Memory`] if an allocation fails.
 fn target_of(
     alloc: Global,
     document: &Value,
     pointer: Pointer<'_>,
     key: &str,
-) -> Result<PointerBuf, EditError<RenameError>>
+) -> Result<PointerBuf, StepError<RenameError>>
     ensures target { IfOk result
         (IsTarget (nodes (view document.now)) (tokens pointer.entry) key.now) }
     ensures refused { IfErr result
         (IsTargetError (nodes (view document.now)) (tokens pointer.entry) key.now) }
 {
     if !is_there(alloc, document, pointer)? {
-        return Err(EditError::Refused(RenameError::NotThere));
+        return Err(StepError::Refused(RenameError::NotThere));
     }
     let Some((front, from)) = member_of(alloc, document, pointer)? else {
-        return Err(EditError::Refused(RenameError::NotAMember));
+        return Err(StepError::Refused(RenameError::NotAMember));
     };
     let to = Token::new(alloc, CowStr::Borrowed(key))?;
     let target = front.with_trailing_token(alloc, to)?;
@@ -112,7 +112,7 @@ fn target_of(
         return Ok(target);
     }
     if is_there(alloc, document, target.as_ptr())? {
-        return Err(EditError::Refused(RenameError::KeyTaken));
+        return Err(StepError::Refused(RenameError::KeyTaken));
     }
     Ok(target)
 }

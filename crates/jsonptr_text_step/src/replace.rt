@@ -8,18 +8,18 @@ ghost use Rattle.jsonptr_text_step.specs.Steps.{ReplacesByText};
 ghost use Rattle.jsonptr_text_step.specs.Bytes.{IsScalar};
 ghost use Rattle.jsonptr_text_step.specs.PrivateReaching.{ReachedInText, ReplacesCut, IsValueEdit, Becomes, ScalarBecomes, ReplacesScalarByText};
 
-use crate::edit::{ValueEditAt, put_value};
-use crate::place::Site;
-use crate::plan::{Made, Plan, Replaced};
+use crate::change_at::{ValueChangeAt, put_value};
+use crate::plan::{Made, Plan, ReplacedValue};
+use crate::site::Site;
 use jsonptr::Pointer;
-use jsonptr_json_edits::buffers::Buffers;
-use jsonptr_json_edits::child::is_value_of;
-use jsonptr_json_edits::cut::{Cut, cut_at};
-use jsonptr_json_edits::edit::{Edit, EditAt};
-use jsonptr_json_edits::layout::replacement;
-use jsonptr_json_edits::locate::place_at;
-use jsonptr_json_edits::spacing::is_trimmed;
-use jsonptr_json_edits::value_text::ValueText;
+use jsonptr_text_check::change::{Change, ChangeAt};
+use jsonptr_text_check::one_child::is_value_of;
+use jsonptr_text_layout::layout::replacement;
+use jsonptr_text_layout::place::place_at;
+use jsonptr_text_layout::value_text::ValueText;
+use jsonptr_text_piece::buffers::Buffers;
+use jsonptr_text_piece::cut::{Cut, cut_at};
+use jsonptr_text_piece::spacing::is_trimmed;
 use jsonptr_text_resolve::selectors::selectors_of;
 use jsonptr_text_search::find::find_in_text_with;
 use jsonptr_text_search::outcome::Outcome;
@@ -103,9 +103,9 @@ pub fn replace_scalar(
 
 /// An edit that replaces a value, and what it puts into the text.
 #[derive(Debug, Drop)]
-pub struct ValueEdit {
+pub struct ValueChange {
     /// The edit.
-    pub edit: Edit,
+    pub change: Change,
     /// The text of the new value, laid out as the document is.
     pub piece: String,
 }
@@ -121,7 +121,7 @@ pub fn value_edit(
     cut: &Cut<'_>,
     site: &Site<'_>,
     printed: &ValueText,
-) -> Result<Option<ValueEdit>, AllocError>
+) -> Result<Option<ValueChange>, AllocError>
     ensures { IfOk result (λ made. IfSome made
         (IsValueEdit cut.now.middle.now (string_bytes printed.now.flat))) }
 {
@@ -129,7 +129,7 @@ pub fn value_edit(
     if !is_trimmed(cut.middle) {
         return Ok(None);
     }
-    let edit = Edit::Replace {
+    let change = Change::Replace {
         old: String::from_str(alloc, cut.middle)?,
         new: printed.flat.clone()?,
     };
@@ -137,7 +137,7 @@ pub fn value_edit(
     if !is_value_of(buffers, piece.as_str(), printed.flat.as_str())? {
         return Ok(None);
     }
-    Ok(Some(ValueEdit { edit, piece }))
+    Ok(Some(ValueChange { change, piece }))
 }
 
 /// Replaces the value at the site, which was cut out.
@@ -161,20 +161,20 @@ fn replace_cut(
         return Ok(None);
     };
     let selectors = selectors_of(alloc, site.pointer)?;
-    let edit = EditAt {
+    let change = ChangeAt {
         selectors: &selectors,
         positions: &site.place.positions,
-        edit: &made.edit,
+        change: &made.change,
     };
-    let at = ValueEditAt {
-        edit,
+    let at = ValueChangeAt {
+        change,
         path: &selectors,
         piece: made.piece.as_str(),
     };
     let Some(text) = put_value(buffers, cut, at)? else {
         return Ok(None);
     };
-    let plan = Plan::Replaced(Replaced {
+    let plan = Plan::Replaced(ReplacedValue {
         value: site.place.value,
         depth: site.place.depth,
         piece: made.piece,

@@ -9,7 +9,7 @@ ghost use Rattle.jsonptr_text_step.specs.EditInText.{AssignsInText, DeletesInTex
 ghost use Rattle.jsonptr_text_step.specs.PrivateRewriting.{IsShortened, IsPrintError};
 ghost use Rattle.jsonptr_text_step.specs.PatchInText.{PatchesInText, IsPatchError};
 
-use crate::edited::EditError;
+use crate::stepped::StepError;
 use jsonptr::{Assign, Delete, Fault, Pointer, assign};
 use jsonptr_patch::{Comparison, FailedOperation, Operation, apply_naming_pointer};
 use jsonptr_value::{MAX_DEPTH, ReadError, discard, nests_within};
@@ -26,7 +26,7 @@ pub fn assign_and_print(
     text: &str,
     pointer: Pointer<'_>,
     value: Value,
-) -> Result<String, EditError<assign::Error>>
+) -> Result<String, StepError<assign::Error>>
     ensures assigned { IfOk result (λ s. AssignsInText text.now (tokens pointer.entry)
         (nodes (view value)) (string_bytes s)) }
     ensures refused { IfErr result (IsAssignError text.now (tokens pointer.entry)
@@ -35,8 +35,8 @@ pub fn assign_and_print(
     let mut document = jsonptr_value::read(alloc, text)?;
     match document.assign(alloc, shortened(pointer), value) {
         Ok(_) => print_document(alloc, document),
-        Err(Fault::Refused(error)) => Err(EditError::Refused(error)),
-        Err(Fault::Memory(error)) => Err(EditError::Memory(error)),
+        Err(Fault::Refused(error)) => Err(StepError::Refused(error)),
+        Err(Fault::Memory(error)) => Err(StepError::Memory(error)),
     }
 }
 
@@ -49,7 +49,7 @@ pub fn apply_and_print(
     alloc: Global,
     text: &str,
     operations: Vec<Operation>,
-) -> Result<String, EditError<FailedOperation>>
+) -> Result<String, StepError<FailedOperation>>
     ensures applied { IfOk result
         (λ s. PatchesInText text.now operations.items (string_bytes s)) }
     ensures refused { IfErr result (IsPatchError text.now operations.items) }
@@ -57,8 +57,8 @@ pub fn apply_and_print(
     let mut document = jsonptr_value::read(alloc, text)?;
     match apply_naming_pointer(alloc, &mut document, operations, Comparison::Numeric) {
         Ok(()) => print_document(alloc, document),
-        Err(Fault::Refused(failed)) => Err(EditError::Refused(failed)),
-        Err(Fault::Memory(error)) => Err(EditError::Memory(error)),
+        Err(Fault::Refused(failed)) => Err(StepError::Refused(failed)),
+        Err(Fault::Memory(error)) => Err(StepError::Memory(error)),
     }
 }
 
@@ -102,9 +102,9 @@ fn shortened<'a>(pointer: Pointer<'a>) -> Pointer<'a>
 ///
 /// # Errors
 ///
-/// [`EditError::TooDeep`] if it nests deeper than 127, and [`EditError::Memory`] if an allocation
+/// [`StepError::TooDeep`] if it nests deeper than 127, and [`StepError::Memory`] if an allocation
 /// fails.
-pub fn print_document<E>(alloc: Global, document: Value) -> Result<String, EditError<E>>
+pub fn print_document<E>(alloc: Global, document: Value) -> Result<String, StepError<E>>
     ensures printed { IfOk result (λ s. read (string_bytes s) ≡ Some (view document)) }
     ensures refused { IfErr result (IsPrintError (view document)) }
 {
@@ -112,5 +112,5 @@ pub fn print_document<E>(alloc: Global, document: Value) -> Result<String, EditE
         return Ok(document.to_string(alloc)?);
     }
     discard(document);
-    Err(EditError::TooDeep)
+    Err(StepError::TooDeep)
 }

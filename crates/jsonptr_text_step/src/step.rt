@@ -9,8 +9,8 @@ use crate::plan::Made;
 use crate::rename::rename_at;
 use crate::replace::replace_at;
 use jsonptr::Pointer;
-use jsonptr_json_edits::buffers::Buffers;
-use jsonptr_json_edits::value_text::ValueText;
+use jsonptr_text_layout::value_text::ValueText;
+use jsonptr_text_piece::buffers::Buffers;
 use jsonptr_text_value::RawValue;
 use std::alloc::AllocError;
 

@@ -4,11 +4,12 @@ ghost use Rattle.jsonptr.specs.Pointer.{tokens};
 ghost use Rattle.jsonptr_text_step.specs.PrivateOperating.{FindsText};
 
 use jsonptr::Pointer;
-use jsonptr_json_edits::buffers::Buffers;
-use jsonptr_json_edits::layout::{slice, text_at};
-use jsonptr_json_edits::lead::{Route, leads_to};
-use jsonptr_json_edits::locate::place_at;
-use jsonptr_json_edits::value_text::ValueText;
+use jsonptr_text_check::lead::{ValueAt, leads_to};
+use jsonptr_text_layout::layout::text_at;
+use jsonptr_text_layout::place::place_at;
+use jsonptr_text_layout::value_text::ValueText;
+use jsonptr_text_piece::buffers::Buffers;
+use jsonptr_text_piece::span::slice;
 use jsonptr_text_resolve::selectors::selectors_of;
 use std::alloc::AllocError;
 
@@ -32,7 +33,7 @@ pub fn value_at(
         return Ok(None);
     };
     let printed = text_at(alloc, text, place.value)?;
-    let target = Route {
+    let target = ValueAt {
         selectors: &selectors,
         positions: &place.positions,
         value: printed.flat.as_str(),

@@ -20,7 +20,7 @@ use Rattle.jsonptr.specs.Content.{label_of, content_at}
 use Rattle.jsonptr.specs.Json.{content, nodes}
 use Rattle.jsonptr_text_value.specs.Raw.{or_null, value_of_raw}
 use Rattle.jsonptr_text_value.specs.declared.raw_value.RawValue.{RawValue}
-use Rattle.jsonptr_json_edits.specs.declared.value_text.ValueText.{ValueText}
+use Rattle.jsonptr_text_layout.specs.declared.value_text.ValueText.{ValueText}
 use Rattle.std.specs.declared.alloc.AllocError.{AllocError}
 use Rattle.jsonptr_text_value.specs.Wrapping.{IsExpanded}
 use Rattle.jsonptr_text_value.specs.Wrapping.{wrapped}

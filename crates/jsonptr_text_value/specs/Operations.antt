@@ -2,7 +2,7 @@
 use Rattle.std.specs.Prelude.{◌≡◌, List, Some, map, IsTrue, string_bytes}
 use Rattle.jsonptr.specs.Text.{Text}
 use Rattle.jsonptr_patch.specs.declared.operation.Operation.{Operation}
-use Rattle.jsonptr_json_edits.specs.Alike.{HoldsTokens}
+use Rattle.jsonptr_text_check.specs.Alike.{HoldsTokens}
 use Rattle.jsonptr_text_value.specs.Fitting.{brings_value}
 use Rattle.jsonptr_text_value.specs.declared.raw_operation.RawOperation.{RawOperation}
 use Rattle.jsonptr_text_value.specs.declared.raw_value.RawValue.{RawValue}

@@ -7,7 +7,7 @@ use Rattle.jsonptr.specs.Text.{Text}
 use Rattle.jsonptr.specs.Node.{NodeMap}
 use Rattle.jsonptr.specs.Expansion.{is_append_index, expanded}
 use Rattle.jsonptr.specs.Json.{nodes}
-use Rattle.jsonptr_json_edits.specs.declared.value_text.ValueText.{ValueText}
+use Rattle.jsonptr_text_layout.specs.declared.value_text.ValueText.{ValueText}
 
 -- `wrapped xs ts` are the tokens `ts`, expanded by the tokens `xs` of a pointer
 abbrev pub wrapped : List Text → List Token → List Token

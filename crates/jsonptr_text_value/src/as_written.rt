@@ -2,11 +2,10 @@
 ghost use Rattle.std.specs.Prelude.{◌≡◌, IfOk, string_bytes};
 ghost use Rattle.json.specs.Lex.{tokens as lexed};
 
-use jsonptr_json_edits::buffers::Buffers;
-use jsonptr_json_edits::child::is_value_of;
-use jsonptr_json_edits::layout::slice;
-use jsonptr_json_edits::locate::Span;
-use jsonptr_json_edits::value_text::ValueText;
+use jsonptr_text_check::one_child::is_value_of;
+use jsonptr_text_layout::value_text::ValueText;
+use jsonptr_text_piece::buffers::Buffers;
+use jsonptr_text_piece::span::{Span, slice};
 use std::alloc::{AllocError, Global};
 
 /// Returns the text, whose last tokens are those of `written`, with each of their strings as it is written

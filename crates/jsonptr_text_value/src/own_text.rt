@@ -7,7 +7,7 @@ ghost use Rattle.jsonptr_text_value.specs.Raw.{value_of_raw};
 
 use crate::as_written::as_written;
 use crate::raw_value::RawValue;
-use jsonptr_json_edits::value_text::ValueText;
+use jsonptr_text_layout::value_text::ValueText;
 use jsonptr_text_resolve::{Scratch, format_both};
 use jsonptr_text_search::decide::is_text;
 use jsonptr_value::{MAX_DEPTH, if_json, nests_within};

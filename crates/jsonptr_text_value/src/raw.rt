@@ -15,7 +15,7 @@ use crate::as_written::as_written;
 use crate::raw_value::RawValue;
 use crate::wrap::expanded;
 use jsonptr::Pointer;
-use jsonptr_json_edits::value_text::{ValueText, text_of_value};
+use jsonptr_text_layout::value_text::{ValueText, text_of_value};
 use jsonptr_text_resolve::{Format, Scratch, format_both, format_text, is_document};
 use jsonptr_value::{MAX_DEPTH, ReadError, nests_within};
 use serde_json::Value;

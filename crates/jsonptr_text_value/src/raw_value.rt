@@ -2,7 +2,7 @@
 ghost use Rattle.std.specs.Prelude.{◌≡◌, true, is_some, string_bytes};
 ghost use Rattle.serde_json.specs.Read.{read};
 
-use jsonptr_json_edits::value_text::ValueText;
+use jsonptr_text_layout::value_text::ValueText;
 
 /// The text of a JSON value, as its author wrote it. It owns the text.
 ///

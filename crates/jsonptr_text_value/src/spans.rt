@@ -3,7 +3,8 @@
 ghost use Rattle.std.specs.Prelude.{◌<◌, length, OnOk};
 
 use json::{Reader, Token};
-use jsonptr_json_edits::locate::{Span, end_of_value};
+use jsonptr_text_piece::child::end_of_value;
+use jsonptr_text_piece::span::Span;
 use jsonptr_text_resolve::Scratch;
 use jsonptr_value::{MAX_DEPTH, ReadError, if_json};
 use std::alloc::{AllocError, Global};

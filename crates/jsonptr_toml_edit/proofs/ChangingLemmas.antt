@@ -14,17 +14,17 @@ use Rattle.jsonptr_toml.specs.declared.error.PrintTomlError.TheVariants as print
 use Rattle.jsonptr_toml_edit.specs.Failing.{AssignsInOrder, DeletesInOrder, IsAssignInTomlError, IsDeleteInTomlError}
 use Rattle.jsonptr_text_step.specs.EditInText.{edited_text}
 use Rattle.jsonptr_toml_edit.specs.EditInToml.{DeletesInToml, IsPrinted}
-use Rattle.jsonptr_text_step.specs.declared.edited.Edited.{Edited}
-use Rattle.jsonptr_text_step.specs.declared.edited.Edited.TheVariants.{InPlace, Rewritten}
+use Rattle.jsonptr_text_step.specs.declared.stepped.Stepped.{Stepped}
+use Rattle.jsonptr_text_step.specs.declared.stepped.Stepped.TheVariants.{InPlace, Rewritten}
 
-pub deletes_then : (text : Text) (ts : List Text) (d2 : Data) (e : Edited) → DeletesTo text ts d2 → ReadsAsToml (edited_text e) d2 → DeletesInToml text ts (edited_text e)
+pub deletes_then : (text : Text) (ts : List Text) (d2 : Data) (e : Stepped) → DeletesTo text ts d2 → ReadsAsToml (edited_text e) d2 → DeletesInToml text ts (edited_text e)
 deletes_then text ts d2 e made h = (made.0, d2, made.1, h, made.2, made.3)
 
-pub assigned_print : (text : Text) (ts : List Text) (v d2 : Data) (e : Edited) → AssignsTo text ts v d2 → IsPrinted (PrintsAs d2) e → IsPrinted (AssignsAndPrintsToml text ts v) e
+pub assigned_print : (text : Text) (ts : List Text) (v d2 : Data) (e : Stepped) → AssignsTo text ts v d2 → IsPrinted (PrintsAs d2) e → IsPrinted (AssignsAndPrintsToml text ts v) e
 assigned_print text ts v d2 (InPlace s) made h = tt
 assigned_print text ts v d2 (Rewritten s) made h = (d2, made, h)
 
-pub deleted_print : (text : Text) (ts : List Text) (d2 : Data) (e : Edited) → DeletesTo text ts d2 → IsPrinted (PrintsAs d2) e → IsPrinted (DeletesAndPrintsToml text ts) e
+pub deleted_print : (text : Text) (ts : List Text) (d2 : Data) (e : Stepped) → DeletesTo text ts d2 → IsPrinted (PrintsAs d2) e → IsPrinted (DeletesAndPrintsToml text ts) e
 deleted_print text ts d2 (InPlace s) made h = tt
 deleted_print text ts d2 (Rewritten s) made h = (d2, made, h)
 

@@ -9,8 +9,8 @@ use Rattle.jsonptr.specs.Assigning.{Assigns}
 use Rattle.jsonptr.specs.TomlValue.{nodes}
 use Rattle.jsonptr_toml.specs.InToml.{ReadsAsToml}
 use Rattle.jsonptr_text_step.specs.Bytes.{KeepsBytes}
-use Rattle.jsonptr_text_step.specs.declared.edited.Edited.{Edited}
-use Rattle.jsonptr_text_step.specs.declared.edited.Edited.TheVariants.{InPlace, Rewritten}
+use Rattle.jsonptr_text_step.specs.declared.stepped.Stepped.{Stepped}
+use Rattle.jsonptr_text_step.specs.declared.stepped.Stepped.TheVariants.{InPlace, Rewritten}
 use Rattle.jsonptr_toml_edit.specs.Giving.{TakesOther}
 
 -- another value is assigned in a copy of the document
@@ -31,7 +31,7 @@ takes_if old ts v u d copy d2 other before after whole replaced (Ok is) apart re
 takes_if old ts v u d copy d2 other before after whole replaced (Err f) apart read joined reads same assigned h = tt
 
 -- what holds of a candidate holds of the text that is edited in place
-pub kept : (P : Text → Type 0) (o : Option (String Global)) (e : Edited) → KeepsBytes (λ s. IfSome o (λ c. s ≡ string_bytes c)) e → KeepsBytes (λ s. IsSome o) e → IfSome o (λ c. P (string_bytes c)) → KeepsBytes P e
+pub kept : (P : Text → Type 0) (o : Option (String Global)) (e : Stepped) → KeepsBytes (λ s. IfSome o (λ c. s ≡ string_bytes c)) e → KeepsBytes (λ s. IsSome o) e → IfSome o (λ c. P (string_bytes c)) → KeepsBytes P e
 kept P (Some c) (InPlace s) same some holds = subst P (sym same) holds
 kept P None (InPlace s) same some holds = absurd (true≢false (sym some))
 kept P o (Rewritten s) same some holds = tt

@@ -5,7 +5,7 @@ use Rattle.toml.specs.Data.{Data}
 use Rattle.jsonptr.specs.Text.{Text}
 use Rattle.jsonptr.specs.TomlValue.{FindsValue}
 use Rattle.jsonptr_toml.specs.InToml.{ReadsAsToml}
-use Rattle.jsonptr_json_edits.specs.Spacing.{Splices}
+use Rattle.jsonptr_text_piece.specs.Spacing.{Splices}
 use Rattle.jsonptr_toml_edit.specs.Bytes.{IsAlone, ReplacesOne, MakeAlone, CutsText, IsEmptyToml, Empties, AssignsTomlBytes, DeletesTomlBytes}
 
 pub empties_then : (ts front : List Text) (x : Text) (e : Data) (t piece : Text) (r : Result Bool AllocError) → ts ≡ front ++ x ∷ [] → IsEmptyToml e → t ≡ piece → IfOk r (λ is. IsTrue is → IsAlone front e t) → IfOk r (λ is. IsTrue is → Empties ts piece)

@@ -28,8 +28,8 @@ use Rattle.jsonptr_toml.specs.declared.error.EditTomlError.TheVariants.{NotToml,
 use Rattle.jsonptr_text_step.specs.PrivateRenaming.{IsObjectAt, IsTarget}
 use Rattle.jsonptr_text_step.specs.Renaming.{IsMember, Renames}
 use Rattle.jsonptr_text_step.specs.declared.rename.RenameError.{RenameError}
-use Rattle.jsonptr_text_step.specs.declared.edited.Edited.{Edited}
-use Rattle.jsonptr_text_step.specs.declared.edited.Edited.TheVariants.{InPlace, Rewritten}
+use Rattle.jsonptr_text_step.specs.declared.stepped.Stepped.{Stepped}
+use Rattle.jsonptr_text_step.specs.declared.stepped.Stepped.TheVariants.{InPlace, Rewritten}
 use Rattle.jsonptr_text_step.proofs.RenamingLemmas.{member_named, left_object, not_below}
 use Rattle.jsonptr_toml_edit.specs.EditInToml.{IsPrinted}
 use Rattle.jsonptr_toml_edit.specs.PrivateRenaming.{IsTargetError}
@@ -144,6 +144,6 @@ unprinted_after_rename text ts k d2 printing.TooDeep made h = (d2, made, h)
 unprinted_after_rename text ts k d2 printing.NoText made h = (d2, made, h)
 unprinted_after_rename text ts k d2 (printing.Memory f) made h = tt
 
-pub renamed_print : (text : Text) (ts : List Text) (k : Text) (d2 : Data) (e : Edited) → RenamesTo text ts k d2 → IsPrinted (PrintsAs d2) e → IsPrinted (RenamesAndPrintsToml text ts k) e
+pub renamed_print : (text : Text) (ts : List Text) (k : Text) (d2 : Data) (e : Stepped) → RenamesTo text ts k d2 → IsPrinted (PrintsAs d2) e → IsPrinted (RenamesAndPrintsToml text ts k) e
 renamed_print text ts k d2 (InPlace s) made h = tt
 renamed_print text ts k d2 (Rewritten s) made h = (d2, made, h)

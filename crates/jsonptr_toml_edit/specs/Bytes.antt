@@ -9,7 +9,7 @@ use Rattle.jsonptr.specs.Node.{NodeMap}
 use Rattle.jsonptr.specs.TomlValue.{nodes}
 use Rattle.jsonptr.specs.Assigning.{Assigns}
 use Rattle.jsonptr_toml.specs.InToml.{ReadsAsToml, FindsInToml}
-use Rattle.jsonptr_json_edits.specs.Spacing.{Splices}
+use Rattle.jsonptr_text_piece.specs.Spacing.{Splices}
 
 -- `IsFiller t`: the text `t` is white space, line breaks and comments alone: it reads, alone, as an empty document
 abbrev pub IsFiller : Text → Type 0

@@ -7,8 +7,8 @@ use Rattle.jsonptr.specs.TomlValue.{nodes, FindsValue}
 use Rattle.jsonptr.specs.Assigning.{Assigns}
 use Rattle.jsonptr.specs.Removing.{Deletes}
 use Rattle.jsonptr_toml.specs.InToml.{ReadsAsToml}
-use Rattle.jsonptr_text_step.specs.declared.edited.Edited.{Edited}
-use Rattle.jsonptr_text_step.specs.declared.edited.Edited.TheVariants.{InPlace, Rewritten}
+use Rattle.jsonptr_text_step.specs.declared.stepped.Stepped.{Stepped}
+use Rattle.jsonptr_text_step.specs.declared.stepped.Stepped.TheVariants.{InPlace, Rewritten}
 
 -- `AssignsInToml old ts v new`: the texts read as documents, and assigning `v` at the tokens turns the first into the
 -- second
@@ -25,6 +25,6 @@ DeletesInToml old ts new =
     × ((v : Data) × FindsValue d ts v) × Deletes (nodes d) ts (nodes (table no_members)) (nodes d2)
 
 -- `IsPrinted P e`: if `e` was printed anew, its text meets `P`
-abbrev pub IsPrinted : (Text → Type 0) → Edited → Type 0
+abbrev pub IsPrinted : (Text → Type 0) → Stepped → Type 0
 IsPrinted P (InPlace s) = ⊤
 IsPrinted P (Rewritten s) = P (string_bytes s)

@@ -4,7 +4,7 @@ use Rattle.toml.specs.Data.{Data}
 use Rattle.toml.specs.View.{view}
 use Rattle.toml.specs.Parse.{parse_value}
 use Rattle.jsonptr.specs.Text.{Text}
-use Rattle.jsonptr_json_edits.specs.Spacing.{Splices}
+use Rattle.jsonptr_text_piece.specs.Spacing.{Splices}
 use Rattle.jsonptr_toml_edit.specs.EditInToml.{AssignsInToml}
 use Rattle.jsonptr_toml_edit.specs.Bytes.{IsBetweenTokens, MakeAlone}
 use Rattle.jsonptr_toml_edit.specs.declared.raw_value.RawTomlValue.{RawTomlValue}

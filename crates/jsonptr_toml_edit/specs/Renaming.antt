@@ -10,7 +10,7 @@ use Rattle.jsonptr_toml.specs.InToml.{ReadsAsToml, IsDeep, IsPrintTomlError, Pri
 use Rattle.jsonptr_toml.specs.declared.error.PrintTomlError.TheVariants as printing
 use Rattle.jsonptr_toml.specs.declared.error.EditTomlError.{EditTomlError}
 use Rattle.jsonptr_toml.specs.declared.error.EditTomlError.TheVariants.{NotToml, DocumentTooDeep, Refused, TooDeep, NoText, Memory}
-use Rattle.jsonptr_json_edits.specs.Spacing.{Splices}
+use Rattle.jsonptr_text_piece.specs.Spacing.{Splices}
 use Rattle.jsonptr_text_step.specs.Renaming.{Renames, RefusesRename}
 use Rattle.jsonptr_text_step.specs.declared.rename.RenameError.{RenameError}
 

@@ -10,7 +10,7 @@ use crate::span::{
     skip_comment_lines, skip_own_comments, slice, text_start,
 };
 use jsonptr::{Pointer, PointerBuf};
-use jsonptr_json_edits::locate::Span;
+use jsonptr_text_piece::span::Span;
 use std::alloc::{AllocError, Global};
 use toml::Value;
 use toml_parser::text::byte_at;
@@ -28,7 +28,7 @@ pub fn plan_addition(
     value: &Value,
 ) -> Result<Option<AdditionPlan>, AllocError> {
     let outline = outline_of(alloc, text, pointer)?;
-    let (count, above) = resolved(document, &outline.route.tokens);
+    let (count, above) = resolved(document, &outline.path.tokens);
     let is_table = match above {
         Value::Table(_) => true,
         Value::Array(_) => false,
@@ -205,7 +205,7 @@ fn lines_of(
     push_keys(
         alloc,
         &mut start,
-        &outline.route.tokens,
+        &outline.path.tokens,
         line.from,
         outline.count(),
     )?;

@@ -5,10 +5,10 @@ ghost use Rattle.toml.specs.View.{view};
 ghost use Rattle.jsonptr.specs.Pointer.{tokens};
 ghost use Rattle.jsonptr_toml_edit.specs.Bytes.{IsFiller, IsComma, HaveOneTomlComma, EndsAs, HoldsAlone, AreItemsOf, IsAlone, IsOneTomlChild};
 
-use crate::check::{is_document_of, is_text_of};
 use crate::plan::{Keys, TomlChild};
+use crate::read_back::{is_document_of, is_text_of};
 use jsonptr::{Assign, Fault, Pointer};
-use jsonptr_json_edits::cut::cut_at;
+use jsonptr_text_piece::cut::cut_at;
 use std::alloc::{AllocError, Global};
 use toml::{Table, Value};
 use toml_parser::text::skip_blank;

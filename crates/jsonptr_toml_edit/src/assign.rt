@@ -13,14 +13,14 @@ ghost use Rattle.jsonptr_toml_edit.specs.Failing.{IsAssignInTomlError};
 
 use crate::add::plan_addition;
 use crate::alone::{are_items_of, is_filler, is_one_toml_child, joined};
-use crate::check::{has_deep_values, is_document_of, is_text_of};
 use crate::open::make_alone;
 use crate::plan::{AdditionPlan, ReplacementPlan};
+use crate::read_back::{has_deep_values, is_document_of, is_text_of};
 use crate::replace::plan_replacement;
 use crate::run::is_run;
 use jsonptr::{Assign, Fault, Pointer, Resolve, assign};
-use jsonptr_json_edits::cut::{Cut, cut_at, splice};
-use jsonptr_text_step::Edited;
+use jsonptr_text_piece::cut::{Cut, cut_at, splice};
+use jsonptr_text_step::Stepped;
 use jsonptr_toml::depth::{MAX_TOML_DEPTH, has_too_many_tokens, toml_nests_within};
 use jsonptr_toml::document::{print_toml, read_toml};
 use jsonptr_toml::{EditTomlError, PrintTomlError};
@@ -40,7 +40,7 @@ pub fn assign_value_in_toml(
     text: &str,
     pointer: Pointer<'_>,
     value: &Value,
-) -> Result<Edited, EditTomlError<assign::Error>>
+) -> Result<Stepped, EditTomlError<assign::Error>>
     ensures assigned { IfOk result (λ e. AssignsInToml text.now (tokens pointer.entry)
         (view value.now) (edited_text e)) }
     ensures bytes { IfOk result (KeepsBytes
@@ -73,7 +73,7 @@ pub fn choose(
     alloc: Global,
     candidate: Option<String>,
     document: Value,
-) -> Result<Edited, PrintTomlError>
+) -> Result<Stepped, PrintTomlError>
     ensures document { IfOk result (λ e. ReadsAsToml (edited_text e) (view document)) }
     ensures in_place { IfOk result (KeepsBytes (λ s. IfSome candidate (λ c. s ≡ string_bytes c))) }
     ensures has_candidate { IfOk result (KeepsBytes (λ s. IsSome candidate)) }
@@ -86,10 +86,10 @@ pub fn choose(
     }
     if let Some(new) = candidate {
         if is_document_of(alloc, new.as_str(), &document)? {
-            return Ok(Edited::InPlace(new));
+            return Ok(Stepped::InPlace(new));
         }
     }
-    Ok(Edited::Rewritten(print_toml(alloc, document)?))
+    Ok(Stepped::Rewritten(print_toml(alloc, document)?))
 }
 
 /// Returns the text with one piece changed, if there is a plan for it.

@@ -15,7 +15,7 @@ use crate::given::{RawAssignment, is_given};
 use crate::given_plan::{GivenForm, plan_given_addition, plan_given_replacement};
 use crate::raw_value::RawTomlValue;
 use jsonptr::{Assign, Fault, Pointer, Resolve, assign};
-use jsonptr_text_step::Edited;
+use jsonptr_text_step::Stepped;
 use jsonptr_toml::EditTomlError;
 use jsonptr_toml::depth::{MAX_TOML_DEPTH, has_too_many_tokens, toml_nests_within};
 use jsonptr_toml::document::read_toml;
@@ -34,7 +34,7 @@ pub fn assign_in_toml(
     text: &str,
     pointer: Pointer<'_>,
     raw: &RawTomlValue,
-) -> Result<Edited, EditTomlError<assign::Error>>
+) -> Result<Stepped, EditTomlError<assign::Error>>
     ensures assigned { IfOk result (λ e. AssignsInToml text.now (tokens pointer.entry)
         (view raw.now.value) (edited_text e)) }
     ensures bytes { IfOk result (KeepsBytes

@@ -6,14 +6,14 @@ ghost use Rattle.jsonptr.specs.Pointer.{tokens};
 ghost use Rattle.jsonptr_toml_edit.specs.Bytes.{IsTomlPair, IsCommaInLine, GoesAbove, GoAlong, CutsText, MakeAlone};
 
 use crate::alone::{is_comma, is_filler};
-use crate::check::is_text_of;
 use crate::lines::{has_no_blank_line, is_rest_of_line, starts_key};
 use crate::open::make_alone;
 use crate::pair::is_pair;
 use crate::plan::RemovedChild;
+use crate::read_back::is_text_of;
 use jsonptr::Pointer;
-use jsonptr_json_edits::cut::{Cut, cut_at};
-use jsonptr_json_edits::locate::Span;
+use jsonptr_text_piece::cut::{Cut, cut_at};
+use jsonptr_text_piece::span::Span;
 use std::alloc::{AllocError, Global};
 use toml::Value;
 use toml_parser::text::{skip_blank, skip_ws};

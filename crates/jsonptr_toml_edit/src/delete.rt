@@ -17,8 +17,8 @@ use crate::cut_out::is_one_removed;
 use crate::plan::{EmptiedParent, RemovalPlan};
 use crate::remove::plan_removal;
 use jsonptr::{Delete, Fault, Pointer, Resolve};
-use jsonptr_json_edits::cut::{cut_at, splice};
-use jsonptr_text_step::Edited;
+use jsonptr_text_piece::cut::{cut_at, splice};
+use jsonptr_text_step::Stepped;
 use jsonptr_toml::EditTomlError;
 use jsonptr_toml::document::read_toml;
 use std::alloc::{AllocError, Global};
@@ -35,7 +35,7 @@ pub fn delete_in_toml(
     alloc: Global,
     text: &str,
     pointer: Pointer<'_>,
-) -> Result<Option<Edited>, EditTomlError<Infallible>>
+) -> Result<Option<Stepped>, EditTomlError<Infallible>>
     ensures deleted { IfOk result (λ o. MatchOption o (LacksInToml text.now (tokens pointer.entry))
         (λ e. DeletesInToml text.now (tokens pointer.entry) (edited_text e))) }
     ensures bytes { IfOk result (λ o. IfSome o

@@ -6,13 +6,13 @@ ghost use Rattle.jsonptr_toml.specs.InToml.{ReadsAsToml};
 ghost use Rattle.jsonptr_toml_edit.specs.Giving.{TakesOther, HasText, PutsHeaders, AssignsTomlGiven};
 
 use crate::alone::joined;
-use crate::check::{is_document_of, is_text_of};
 use crate::given_plan::{GivenForm, GivenHeaders};
 use crate::open::make_alone;
 use crate::raw_value::RawTomlValue;
+use crate::read_back::{is_document_of, is_text_of};
 use jsonptr::{Assign, Fault, Pointer};
-use jsonptr_json_edits::cut::{Cut, cut_at, splice};
-use jsonptr_json_edits::locate::Span;
+use jsonptr_text_piece::cut::{Cut, cut_at, splice};
+use jsonptr_text_piece::span::Span;
 use std::alloc::{AllocError, Global};
 use toml::Value;
 use toml_parser::bytes::is_word;

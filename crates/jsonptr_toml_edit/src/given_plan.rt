@@ -6,8 +6,8 @@ use crate::plan::{AdditionPlan, Keys, ReplacementPlan, TomlChild};
 use crate::raw_value::RawTomlValue;
 use crate::replace::plan_replacement;
 use jsonptr::{Pointer, PointerBuf};
-use jsonptr_json_edits::cut::{cut_at, splice};
-use jsonptr_json_edits::locate::Span;
+use jsonptr_text_piece::cut::{cut_at, splice};
+use jsonptr_text_piece::span::Span;
 use std::alloc::{AllocError, Global};
 use toml::Value;
 

@@ -1,9 +1,9 @@
 //! The elements of arrays and the members of inline tables. These are hints: no contract says that they
 //! are right.
-use crate::keys::{KeyEnd, Route, follow, is_index};
+use crate::keys::{KeyEnd, KeyPath, follow, is_index};
 use crate::skip::{keys_end, value_end};
 use crate::span::{skip_blanks, skip_filler};
-use jsonptr_json_edits::locate::Span;
+use jsonptr_text_piece::span::Span;
 use std::alloc::{AllocError, Global};
 use toml_parser::text::byte_at;
 
@@ -97,11 +97,11 @@ fn find_child(
     alloc: Global,
     text: &str,
     children: &Vec<InlineChild>,
-    route: &Route,
+    path: &KeyPath,
     count: usize,
 ) -> Result<Option<FoundChild>, AllocError> {
     for child in children.iter() {
-        if let Some(count) = follow_child(alloc, text, child, route, count)? {
+        if let Some(count) = follow_child(alloc, text, child, path, count)? {
             return Ok(Some(FoundChild {
                 child: *child,
                 count,
@@ -116,16 +116,16 @@ fn follow_child(
     alloc: Global,
     text: &str,
     child: &InlineChild,
-    route: &Route,
+    path: &KeyPath,
     count: usize,
 ) -> Result<Option<usize>, AllocError> {
     if child.key.from == child.key.to {
-        return Ok(match route.tokens.get(count) {
+        return Ok(match path.tokens.get(count) {
             Some(token) if is_index(token.as_str(), child.index) => Some(count.saturating_add(1)),
             _ => None,
         });
     }
-    let reach = follow(alloc, text, child.key, route, count)?;
+    let reach = follow(alloc, text, child.key, path, count)?;
     Ok(if reach.ending == KeyEnd::Whole {
         Some(reach.count)
     } else {
@@ -138,11 +138,11 @@ fn container_at(
     alloc: Global,
     text: &str,
     span: Span,
-    route: &Route,
+    path: &KeyPath,
     count: usize,
 ) -> Result<InlineContainer, AllocError> {
     let children = children_of(alloc, text, span)?;
-    let found = find_child(alloc, text, &children, route, count)?;
+    let found = find_child(alloc, text, &children, path, count)?;
     Ok(InlineContainer {
         span,
         children,
@@ -161,22 +161,22 @@ pub fn container_of(
     alloc: Global,
     text: &str,
     value: Span,
-    route: &Route,
+    path: &KeyPath,
     count: usize,
 ) -> Result<Option<InlineContainer>, AllocError> {
     let mut here = None;
     let mut span = value;
     let mut reached = count;
-    for _token in count..=route.tokens.len() {
+    for _token in count..=path.tokens.len() {
         let first = byte_at(text, span.from);
         if first != b'[' && first != b'{' {
             break;
         }
-        let container = container_at(alloc, text, span, route, reached)?;
+        let container = container_at(alloc, text, span, path, reached)?;
         let found = container.found;
         here = Some(container);
         match found {
-            Some(found) if found.count < route.tokens.len() => {
+            Some(found) if found.count < path.tokens.len() => {
                 span = found.child.value;
                 reached = found.count;
             }

@@ -7,7 +7,7 @@ use crate::plan::{AdditionPlan, Keys, TomlChild};
 use crate::span::{
     ends_line, is_comment_line, is_tight, line_end, line_start, newline_of, skip_blanks, slice,
 };
-use jsonptr_json_edits::locate::Span;
+use jsonptr_text_piece::span::Span;
 use std::alloc::{AllocError, Global};
 use toml::Value;
 use toml_parser::text::byte_at;
@@ -51,7 +51,7 @@ pub fn add_child(
         push_keys(
             alloc,
             &mut child,
-            &outline.route.tokens,
+            &outline.path.tokens,
             container.count,
             outline.count(),
         )?;
@@ -85,7 +85,7 @@ fn innermost(
     };
     match (outline.items.get(index), outline.traces.get(index)) {
         (Some(item), Some(trace)) => {
-            container_of(alloc, text, item.value, &outline.route, trace.shared)
+            container_of(alloc, text, item.value, &outline.path, trace.shared)
         }
         _ => Ok(None),
     }

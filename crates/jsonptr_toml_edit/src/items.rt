@@ -1,7 +1,7 @@
 //! The headers and pairs of a text. These are hints: no contract says that they are right.
 use crate::skip::{keys_end, value_end};
 use crate::span::{line_start, next_line, skip_blanks, skip_filler, text_start};
-use jsonptr_json_edits::locate::Span;
+use jsonptr_text_piece::span::Span;
 use std::alloc::{AllocError, Global};
 use toml_parser::text::byte_at;
 

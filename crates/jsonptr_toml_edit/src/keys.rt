@@ -3,7 +3,7 @@ use crate::skip::{after_dot, key_end};
 use crate::span::slice;
 use jsonptr::index::Index;
 use jsonptr::{Pointer, PointerBuf, Token};
-use jsonptr_json_edits::locate::Span;
+use jsonptr_text_piece::span::Span;
 use std::alloc::{AllocError, Global};
 use std::borrow::CowStr;
 use std::fmt::Formatter;
@@ -12,7 +12,7 @@ use toml_writer::write_key;
 
 /// The tokens of a pointer, decoded.
 #[derive(Debug, Drop)]
-pub struct Route {
+pub struct KeyPath {
     /// The tokens.
     pub tokens: Vec<String>,
     /// For each number of tokens, how many tables there are so far in the array of tables there: the
@@ -40,12 +40,12 @@ pub struct Reach {
     pub ending: KeyEnd,
 }
 
-/// Returns the route of the pointer.
+/// Returns the path of the pointer.
 ///
 /// # Errors
 ///
 /// [`AllocError`] if an allocation fails.
-pub fn route_of(alloc: Global, pointer: Pointer<'_>) -> Result<Route, AllocError> {
+pub fn key_path_of(alloc: Global, pointer: Pointer<'_>) -> Result<KeyPath, AllocError> {
     let mut tokens = Vec::new(alloc);
     let mut counts = Vec::new(alloc);
     counts.push(0usize)?;
@@ -54,7 +54,7 @@ pub fn route_of(alloc: Global, pointer: Pointer<'_>) -> Result<Route, AllocError
         tokens.push(String::from_str(alloc, decoded.as_str())?)?;
         counts.push(0usize)?;
     }
-    Ok(Route { tokens, counts })
+    Ok(KeyPath { tokens, counts })
 }
 
 /// Returns whether the key, as it is written, is the token.
@@ -100,7 +100,7 @@ pub fn follow(
     alloc: Global,
     text: &str,
     key: Span,
-    route: &Route,
+    path: &KeyPath,
     from: usize,
 ) -> Result<Reach, AllocError> {
     let mut reach = whole(from);
@@ -110,7 +110,7 @@ pub fn follow(
         reach = step(
             alloc,
             slice(text, Span { from: next, to }),
-            route,
+            path,
             reach.count,
         )?;
         if reach.ending != KeyEnd::Whole {
@@ -132,14 +132,14 @@ pub fn follow(
 pub fn step(
     alloc: Global,
     written: &str,
-    route: &Route,
+    path: &KeyPath,
     count: usize,
 ) -> Result<Reach, AllocError> {
-    let reach = enter_element(route, count);
+    let reach = enter_element(path, count);
     if reach.ending != KeyEnd::Whole {
         return Ok(reach);
     }
-    let Some(token) = route.tokens.get(reach.count) else {
+    let Some(token) = path.tokens.get(reach.count) else {
         return Ok(deeper(reach.count));
     };
     if is_key(alloc, written, token.as_str())? {
@@ -150,12 +150,12 @@ pub fn step(
 }
 
 /// Returns how far the last table leads of the array of tables after so many tokens, if one is there.
-pub fn enter_element(route: &Route, count: usize) -> Reach {
-    let tables = route.counts.get(count).copied().unwrap_or(0);
+pub fn enter_element(path: &KeyPath, count: usize) -> Reach {
+    let tables = path.counts.get(count).copied().unwrap_or(0);
     if tables == 0 {
         return whole(count);
     }
-    match route.tokens.get(count) {
+    match path.tokens.get(count) {
         Some(token) if is_index(token.as_str(), tables - 1) => whole(count.saturating_add(1)),
         Some(_) => beside(count),
         None => deeper(count),

@@ -23,7 +23,7 @@ use crate::edit_error::TomlEditError;
 use crate::raw_value::RawTomlValue;
 use crate::rename::rename_in_toml;
 use jsonptr::{Pointer, assign};
-use jsonptr_text_step as in_text;
+use jsonptr_text_step as text_step;
 use jsonptr_text_step::RenameError;
 use jsonptr_toml::EditTomlError;
 use std::alloc::Global;
@@ -39,7 +39,7 @@ pub fn make(
     alloc: Global,
     text: &str,
     edit: &TomlEdit<'_>,
-) -> Result<in_text::Edited, TomlEditError>
+) -> Result<text_step::Stepped, TomlEditError>
     ensures edited { IfOk result (λ e. EditsToml text.now edit.now (edited_text e)) }
     ensures bytes { IfOk result (KeepsBytes (TomlEditBytes text.now edit.now)) }
     ensures printed { IfOk result (IsPrinted (EditsAndPrintsToml text.now edit.now)) }
@@ -59,7 +59,7 @@ fn assigned(
     text: &str,
     pointer: Pointer<'_>,
     raw: &RawTomlValue,
-) -> Result<in_text::Edited, TomlEditError>
+) -> Result<text_step::Stepped, TomlEditError>
     ensures edited { IfOk result (λ e. AssignsInToml text.now (tokens pointer.entry)
         (view raw.now.value) (edited_text e)) }
     ensures bytes { IfOk result (KeepsBytes (λ s. AssignsTomlBytes text.now
@@ -82,7 +82,7 @@ fn value_assigned(
     text: &str,
     pointer: Pointer<'_>,
     value: &Value,
-) -> Result<in_text::Edited, TomlEditError>
+) -> Result<text_step::Stepped, TomlEditError>
     ensures edited { IfOk result (λ e. AssignsInToml text.now (tokens pointer.entry)
         (view value.now) (edited_text e)) }
     ensures bytes { IfOk result (KeepsBytes
@@ -103,7 +103,7 @@ fn deleted(
     alloc: Global,
     text: &str,
     pointer: Pointer<'_>,
-) -> Result<in_text::Edited, TomlEditError>
+) -> Result<text_step::Stepped, TomlEditError>
     ensures edited { IfOk result
         (λ e. DeletesInToml text.now (tokens pointer.entry) (edited_text e)) }
     ensures bytes { IfOk result
@@ -125,7 +125,7 @@ fn renamed(
     text: &str,
     pointer: Pointer<'_>,
     key: &str,
-) -> Result<in_text::Edited, TomlEditError>
+) -> Result<text_step::Stepped, TomlEditError>
     ensures edited { IfOk result
         (λ e. RenamesInToml text.now (tokens pointer.entry) key.now (edited_text e)) }
     ensures bytes { IfOk result

@@ -1,11 +1,11 @@
 //! Where a text names a member of a table. These are hints: no contract says that they are right.
 use crate::inline::{InlineChild, children_of};
 use crate::items::{ItemKind, TomlItem, items_of};
-use crate::keys::{KeyEnd, Reach, Route, enter_element, is_index, route_of, step};
+use crate::keys::{KeyEnd, KeyPath, Reach, enter_element, is_index, key_path_of, step};
 use crate::skip::{after_dot, key_end};
 use crate::span::slice;
 use jsonptr::Pointer;
-use jsonptr_json_edits::locate::Span;
+use jsonptr_text_piece::span::Span;
 use std::alloc::{AllocError, Global};
 use toml_parser::text::byte_at;
 
@@ -29,7 +29,7 @@ pub fn mentions_of(
     text: &str,
     pointer: Pointer<'_>,
 ) -> Result<Vec<Span>, AllocError> {
-    let mut route = route_of(alloc, pointer)?;
+    let mut path = key_path_of(alloc, pointer)?;
     let items = items_of(alloc, text)?;
     let mut parts = Vec::new(alloc);
     let mut above = Reach {
@@ -38,19 +38,12 @@ pub fn mentions_of(
     };
     for item in &items {
         if item.kind != ItemKind::Pair {
-            above = enter_header(alloc, text, item, &mut route, &mut parts)?;
+            above = enter_header(alloc, text, item, &mut path, &mut parts)?;
         } else if above.ending == KeyEnd::Whole {
-            let lead = lead_of(alloc, text, item.key, &route, above.count)?;
+            let lead = lead_of(alloc, text, item.key, &path, above.count)?;
             add_part(&mut parts, lead.part)?;
             if lead.reach.ending == KeyEnd::Whole {
-                enter_value(
-                    alloc,
-                    text,
-                    item.value,
-                    &route,
-                    lead.reach.count,
-                    &mut parts,
-                )?;
+                enter_value(alloc, text, item.value, &path, lead.reach.count, &mut parts)?;
             }
         }
     }
@@ -71,20 +64,20 @@ fn enter_header(
     alloc: Global,
     text: &str,
     item: &TomlItem,
-    route: &mut Route,
+    path: &mut KeyPath,
     parts: &mut Vec<Span>,
 ) -> Result<Reach, AllocError> {
-    let lead = lead_of(alloc, text, item.key, route, 0)?;
+    let lead = lead_of(alloc, text, item.key, path, 0)?;
     add_part(parts, lead.part)?;
     if lead.reach.ending != KeyEnd::Whole {
         return Ok(lead.reach);
     }
     if item.kind == ItemKind::Element {
-        if let Some(tables) = route.counts.get_mut(lead.reach.count) {
+        if let Some(tables) = path.counts.get_mut(lead.reach.count) {
             *tables = tables.saturating_add(1);
         }
     }
-    Ok(enter_element(route, lead.reach.count))
+    Ok(enter_element(path, lead.reach.count))
 }
 
 /// Returns how far the dotted key leads along the tokens, from the first ones on that lead to it.
@@ -92,7 +85,7 @@ fn lead_of(
     alloc: Global,
     text: &str,
     key: Span,
-    route: &Route,
+    path: &KeyPath,
     from: usize,
 ) -> Result<Lead, AllocError> {
     let mut lead = Lead {
@@ -108,11 +101,11 @@ fn lead_of(
             from: next,
             to: key_end(text, next),
         };
-        lead.reach = step(alloc, slice(text, part), route, lead.reach.count)?;
+        lead.reach = step(alloc, slice(text, part), path, lead.reach.count)?;
         if lead.reach.ending != KeyEnd::Whole {
             break;
         }
-        if lead.reach.count == route.tokens.len() {
+        if lead.reach.count == path.tokens.len() {
             lead.part = Some(part);
             break;
         }
@@ -129,13 +122,13 @@ fn enter_value(
     alloc: Global,
     text: &str,
     value: Span,
-    route: &Route,
+    path: &KeyPath,
     count: usize,
     parts: &mut Vec<Span>,
 ) -> Result<(), AllocError> {
     let mut span = value;
     let mut reached = count;
-    for _token in count..route.tokens.len() {
+    for _token in count..path.tokens.len() {
         let first = byte_at(text, span.from);
         if first != b'[' && first != b'{' {
             break;
@@ -143,9 +136,9 @@ fn enter_value(
         let children = children_of(alloc, text, span)?;
         let mut inner = None;
         for child in children.iter() {
-            let lead = lead_of_child(alloc, text, child, route, reached)?;
+            let lead = lead_of_child(alloc, text, child, path, reached)?;
             add_part(parts, lead.part)?;
-            if lead.reach.ending == KeyEnd::Whole && lead.reach.count < route.tokens.len() {
+            if lead.reach.ending == KeyEnd::Whole && lead.reach.count < path.tokens.len() {
                 inner = Some((child.value, lead.reach.count));
             }
         }
@@ -165,13 +158,13 @@ fn lead_of_child(
     alloc: Global,
     text: &str,
     child: &InlineChild,
-    route: &Route,
+    path: &KeyPath,
     count: usize,
 ) -> Result<Lead, AllocError> {
     if child.key.from < child.key.to {
-        return lead_of(alloc, text, child.key, route, count);
+        return lead_of(alloc, text, child.key, path, count);
     }
-    let reach = match route.tokens.get(count) {
+    let reach = match path.tokens.get(count) {
         Some(token) if is_index(token.as_str(), child.index) => Reach {
             count: count.saturating_add(1),
             ending: KeyEnd::Whole,

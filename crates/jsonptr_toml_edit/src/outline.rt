@@ -1,10 +1,10 @@
 //! How the headers and pairs of a text lie beside the tokens of a pointer. These are hints: no contract
 //! says that they are right.
 use crate::items::{ItemKind, TomlItem, items_of};
-use crate::keys::{KeyEnd, Route, enter_element, follow, pointer_of, push_token, route_of};
+use crate::keys::{KeyEnd, KeyPath, enter_element, follow, key_path_of, pointer_of, push_token};
 use crate::span::{skip_blanks, slice};
 use jsonptr::{Pointer, PointerBuf};
-use jsonptr_json_edits::locate::Span;
+use jsonptr_text_piece::span::Span;
 use std::alloc::{AllocError, Global};
 
 /// How an item lies beside the tokens.
@@ -46,7 +46,7 @@ pub struct ItemRun {
 #[derive(Debug, Drop)]
 pub struct Outline {
     /// The tokens.
-    pub route: Route,
+    pub path: KeyPath,
     /// The items.
     pub items: Vec<TomlItem>,
     /// How each of them lies.
@@ -59,7 +59,7 @@ pub struct Outline {
 ///
 /// [`AllocError`] if an allocation fails.
 pub fn outline_of(alloc: Global, text: &str, pointer: Pointer<'_>) -> Result<Outline, AllocError> {
-    let mut route = route_of(alloc, pointer)?;
+    let mut path = key_path_of(alloc, pointer)?;
     let items = items_of(alloc, text)?;
     let mut traces = Vec::with_capacity(alloc, items.len())?;
     let mut header = Trace {
@@ -69,15 +69,15 @@ pub fn outline_of(alloc: Global, text: &str, pointer: Pointer<'_>) -> Result<Out
     };
     for item in &items {
         let trace = if item.kind == ItemKind::Pair {
-            trace_pair(alloc, text, item, &route, header)?
+            trace_pair(alloc, text, item, &path, header)?
         } else {
-            header = trace_header(alloc, text, item, &mut route)?;
+            header = trace_header(alloc, text, item, &mut path)?;
             header
         };
         traces.push(trace)?;
     }
     Ok(Outline {
-        route,
+        path,
         items,
         traces,
     })
@@ -88,15 +88,15 @@ fn trace_pair(
     alloc: Global,
     text: &str,
     item: &TomlItem,
-    route: &Route,
+    path: &KeyPath,
     header: Trace,
 ) -> Result<Trace, AllocError> {
     if header.role != Role::Above {
         return Ok(header);
     }
-    let reach = follow(alloc, text, item.key, route, header.shared)?;
+    let reach = follow(alloc, text, item.key, path, header.shared)?;
     let role = match reach.ending {
-        KeyEnd::Whole if reach.count == route.tokens.len() => Role::Exact,
+        KeyEnd::Whole if reach.count == path.tokens.len() => Role::Exact,
         KeyEnd::Whole => Role::Through,
         KeyEnd::Deeper => Role::Inside,
         KeyEnd::Beside => Role::Outside,
@@ -113,19 +113,19 @@ fn trace_header(
     alloc: Global,
     text: &str,
     item: &TomlItem,
-    route: &mut Route,
+    path: &mut KeyPath,
 ) -> Result<Trace, AllocError> {
-    let mut reach = follow(alloc, text, item.key, route, 0)?;
+    let mut reach = follow(alloc, text, item.key, path, 0)?;
     if reach.ending == KeyEnd::Whole {
         if item.kind == ItemKind::Element {
-            if let Some(tables) = route.counts.get_mut(reach.count) {
+            if let Some(tables) = path.counts.get_mut(reach.count) {
                 *tables = tables.saturating_add(1);
             }
         }
-        reach = enter_element(route, reach.count);
+        reach = enter_element(path, reach.count);
     }
     let role = match reach.ending {
-        KeyEnd::Whole if reach.count < route.tokens.len() => Role::Above,
+        KeyEnd::Whole if reach.count < path.tokens.len() => Role::Above,
         KeyEnd::Beside => Role::Outside,
         _ => Role::Inside,
     };
@@ -139,7 +139,7 @@ fn trace_header(
 impl Outline {
     /// Returns how many tokens there are.
     pub fn count(&self) -> usize {
-        self.route.tokens.len()
+        self.path.tokens.len()
     }
 
     /// Returns how many tokens lead to the table of the item.
@@ -199,7 +199,7 @@ impl Outline {
 
     /// Returns whether the token is an index of an array of tables.
     pub fn is_element(&self, index: usize) -> bool {
-        self.route.counts.get(index).copied().unwrap_or(0) > 0
+        self.path.counts.get(index).copied().unwrap_or(0) > 0
     }
 
     /// Returns the keys that lead along the first tokens in headers: an index of an array of tables is left out,
@@ -210,7 +210,7 @@ impl Outline {
     /// [`AllocError`] if an allocation fails.
     pub fn header_keys(&self, alloc: Global, count: usize) -> Result<PointerBuf, AllocError> {
         let mut keys = PointerBuf::new(alloc);
-        for (index, token) in self.route.tokens.iter().take(count).enumerate() {
+        for (index, token) in self.path.tokens.iter().take(count).enumerate() {
             if !self.is_element(index) {
                 push_token(alloc, &mut keys, token.as_str())?;
             } else if index.saturating_add(1) == count {
@@ -240,7 +240,7 @@ impl Outline {
         from: usize,
         to: usize,
     ) -> Result<PointerBuf, AllocError> {
-        pointer_of(alloc, &self.route.tokens, from, to)
+        pointer_of(alloc, &self.path.tokens, from, to)
     }
 }
 

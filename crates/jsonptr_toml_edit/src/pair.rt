@@ -8,7 +8,7 @@ ghost use Rattle.jsonptr.specs.Text.{Text};
 ghost use Rattle.jsonptr.specs.Pointer.{tokens};
 ghost use Rattle.jsonptr_toml_edit.specs.Bytes.{IsTomlPair};
 
-use crate::check::is_text_of;
+use crate::read_back::is_text_of;
 use jsonptr::Pointer;
 use std::alloc::{AllocError, Global};
 use toml::Value;

@@ -1,7 +1,7 @@
 //! What an edit does to a text. These are hints: no contract says that they are right.
 
 use jsonptr::PointerBuf;
-use jsonptr_json_edits::locate::Span;
+use jsonptr_text_piece::span::Span;
 
 /// The keys at which a piece of a text holds a value.
 #[derive(Debug, Drop)]

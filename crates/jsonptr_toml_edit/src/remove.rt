@@ -9,7 +9,7 @@ use crate::span::{
     skip_blank_lines, skip_blanks, skip_own_comments, text_start,
 };
 use jsonptr::{Pointer, PointerBuf};
-use jsonptr_json_edits::locate::Span;
+use jsonptr_text_piece::span::Span;
 use std::alloc::{AllocError, Global};
 use toml_parser::text::byte_at;
 
@@ -103,7 +103,7 @@ fn left_pair(
     if let Some(item) = outline.items.get(index) {
         piece.push_str(indent_of(text, item))?;
     }
-    push_keys(alloc, &mut piece, &outline.route.tokens, from, count)?;
+    push_keys(alloc, &mut piece, &outline.path.tokens, from, count)?;
     piece.push_str(if is_array { " = []" } else { " = {}" })?;
     piece.push_str(newline_of(text))?;
     Ok(EmptiedParent {
@@ -214,8 +214,7 @@ fn remove_child(
     let (Some(item), Some(trace)) = (outline.items.get(index), outline.traces.get(index)) else {
         return Ok(None);
     };
-    let Some(container) = container_of(alloc, text, item.value, &outline.route, trace.shared)?
-    else {
+    let Some(container) = container_of(alloc, text, item.value, &outline.path, trace.shared)? else {
         return Ok(None);
     };
     let Some(found) = container.found else {

@@ -12,9 +12,9 @@ use crate::keys::key_text;
 use crate::mention::mentions_of;
 use crate::rename_document::{is_same_text, renamed_document};
 use jsonptr::Pointer;
-use jsonptr_json_edits::cut::{Cut, cut_at, splice};
-use jsonptr_json_edits::locate::Span;
-use jsonptr_text_step::{Edited, RenameError};
+use jsonptr_text_piece::cut::{Cut, cut_at, splice};
+use jsonptr_text_piece::span::Span;
+use jsonptr_text_step::{RenameError, Stepped};
 use jsonptr_toml::EditTomlError;
 use std::alloc::{AllocError, Global};
 use toml_parser::bytes::{is_bare, is_ws};
@@ -31,7 +31,7 @@ pub fn rename_in_toml(
     text: &str,
     pointer: Pointer<'_>,
     key: &str,
-) -> Result<Edited, EditTomlError<RenameError>>
+) -> Result<Stepped, EditTomlError<RenameError>>
     ensures renamed { IfOk result
         (λ e. RenamesInToml text.now (tokens pointer.entry) key.now (edited_text e)) }
     ensures bytes { IfOk result

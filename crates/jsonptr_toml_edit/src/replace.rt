@@ -8,7 +8,7 @@ use crate::piece::{has_headers, section_text};
 use crate::plan::{LastItem, ReplacedItems, ReplacementPlan};
 use crate::span::{newline_of, slice};
 use jsonptr::{Pointer, PointerBuf};
-use jsonptr_json_edits::locate::Span;
+use jsonptr_text_piece::span::Span;
 use std::alloc::{AllocError, Global};
 use toml::Value;
 
@@ -51,8 +51,7 @@ fn value_span(alloc: Global, text: &str, outline: &Outline) -> Result<Option<Spa
     let (Some(item), Some(trace)) = (outline.items.get(index), outline.traces.get(index)) else {
         return Ok(None);
     };
-    let Some(container) = container_of(alloc, text, item.value, &outline.route, trace.shared)?
-    else {
+    let Some(container) = container_of(alloc, text, item.value, &outline.path, trace.shared)? else {
         return Ok(None);
     };
     match container.found {
@@ -180,7 +179,7 @@ fn pair_of(
     push_keys(
         alloc,
         &mut piece,
-        &outline.route.tokens,
+        &outline.path.tokens,
         from,
         outline.count(),
     )?;

@@ -5,8 +5,8 @@ ghost use Rattle.jsonptr_toml_edit.specs.Bytes.{IsHeaderLine, IsPairLine, IsItem
 use crate::lines::{is_line, is_rest_of_line, starts_key};
 use crate::pair::is_some_pair;
 use crate::plan::LastItem;
-use jsonptr_json_edits::cut::cut_at;
-use jsonptr_json_edits::locate::Span;
+use jsonptr_text_piece::cut::cut_at;
+use jsonptr_text_piece::span::Span;
 use std::alloc::{AllocError, Global};
 use toml_parser::text::{byte_at, first, skip_ws};
 

@@ -1,12 +1,11 @@
 //! Offsets and lines of a text. These are hints: no contract says that they are right.
-use jsonptr_json_edits::layout;
-use jsonptr_json_edits::locate::Span;
+use jsonptr_text_piece::span::{self, Span};
 use toml_parser::text::byte_at;
 
 /// Returns the text between the offsets, or an empty text if they are not in order or not between
 /// characters.
 pub fn slice(text: &str, span: Span) -> &str {
-    layout::slice(text, span.from, span.to)
+    span::slice(text, span.from, span.to)
 }
 
 /// Returns whether the equals sign between the key and the value has no white space beside it.

@@ -8,7 +8,7 @@ use crate::edit::TomlEdit;
 use crate::edit_error::TomlEditError;
 use crate::made::make;
 use jsonptr_text_edit::Edited;
-use jsonptr_text_step as in_text;
+use jsonptr_text_step as text_step;
 use std::alloc::Global;
 
 /// Makes the edit in the document that the TOML text contains, and returns the new text. A document that
@@ -93,8 +93,8 @@ pub fn edit_toml(alloc: Global, text: &str, edit: &TomlEdit<'_>) -> Result<Edite
     ensures refused { IfErr result (IsTomlEditError text.now edit.now) }
 {
     match make(alloc, text, edit) {
-        Ok(in_text::Edited::InPlace(new)) => Ok(Edited::InPlace(new)),
-        Ok(in_text::Edited::Rewritten(new)) => Ok(Edited::Reprinted(new)),
+        Ok(text_step::Stepped::InPlace(new)) => Ok(Edited::InPlace(new)),
+        Ok(text_step::Stepped::Rewritten(new)) => Ok(Edited::Reprinted(new)),
         Err(error) => Err(error),
     }
 }

@@ -8,7 +8,7 @@ use Rattle.jsonptr.specs.Text.{Text}
 use Rattle.jsonptr.specs.declared.pointer.Pointer.{Pointer}
 use Rattle.jsonptr_text_value.specs.Raw.{value_of_raw}
 use Rattle.jsonptr_text_value.specs.declared.raw_value.RawValue.{RawValue}
-use Rattle.jsonptr_json_edits.specs.Spacing.{IsBlank}
+use Rattle.jsonptr_text_piece.specs.Spacing.{IsBlank}
 use Rattle.jsonptr_io.specs.Lines.{AreLines}
 use Rattle.jsonptr_io.specs.Streams.{ForInput}
 use Rattle.jsonptr_text_paths.specs.declared.listing.Listed.TheVariants.{AllNodes}

@@ -4,7 +4,7 @@ use Rattle.std.proofs.Math.Seq.{drop-append_seam, take-append_seam}
 use Rattle.serde_json.specs.Data.{Data}
 use Rattle.jsonptr.specs.Text.{Text}
 use Rattle.jsonptr_text_resolve.specs.InText.{FindsInText}
-use Rattle.jsonptr_json_edits.specs.Child.{IsValueText}
+use Rattle.jsonptr_text_check.specs.Child.{IsValueText}
 use Rattle.jsonptr_text_step.specs.Locating.{IsOutside}
 use Rattle.jsonptr_c_calls.specs.Locations.{IsNotPointedAt, LocatesInText}
 use Rattle.jsonptr_c_calls.specs.Pointers.{HasTokens}

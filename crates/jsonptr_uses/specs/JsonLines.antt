@@ -4,7 +4,7 @@ use Rattle.serde_json.specs.Data.{Data}
 use Rattle.jsonptr.specs.Json.{nodes}
 use Rattle.jsonptr.specs.Text.{Text}
 use Rattle.jsonptr_text_step.specs.Bytes.{AssignsBytes}
-use Rattle.jsonptr_json_edits.specs.Spacing.{IsBlank}
+use Rattle.jsonptr_text_piece.specs.Spacing.{IsBlank}
 use Rattle.jsonptr_text_step.specs.EditInText.{AssignsInText}
 
 -- `TagsEach ts v ls out`: `out` has a line for each of the lines `ls` that is not white space: the same document with `v`

@@ -2,7 +2,7 @@ use Rattle.std.proofs.Common.{Option, IfSome, Bor, subst, arith}
 use Rattle.jsonptr.specs.Text.{Text}
 use Rattle.jsonptr.specs.Pointer.{tokens}
 use Rattle.jsonptr_text_step.specs.Locating.{IsLocated}
-use Rattle.jsonptr_text_step.specs.declared.find.Located.{Located}
+use Rattle.jsonptr_text_step.specs.declared.located.Located.{Located}
 use Rattle.jsonptr_comments_step.specs.PrivateChecking.{IsExactChild}
 use Rattle.jsonptr_comments_step.proofs.CheckLemmas.{child_at}
 use Rattle.jsonptr_comments_step.proofs.child.is_child_at.Goals as goal
@@ -11,7 +11,7 @@ pub returns : goal.returns
 returns c = λ t.
     let bare = c.args.draft.now.bare.now in
     let path = tokens c.args.draft.now.pointer in
-    let span = c.args.child.now.extent.child in
+    let span = c.args.child.now.at.span in
     let cut = c.in-Some.cut in
     let value = c.in-Some-2.value.now in
     let l = c.in-Some-3.located in

@@ -1,9 +1,9 @@
 use Rattle.std.proofs.Common.{◌≡◌, ◌++◌, Option, None, option_map, IfSome, Bor, sym, ◌∙◌, subst}
 use Rattle.serde_json.specs.Data.{Data}
 use Rattle.jsonptr.specs.Text.{Text}
-use Rattle.jsonptr_json_edits.specs.Child.{IsReadAs}
-use Rattle.jsonptr_json_edits.specs.PrivateChild.{IsCutChild}
-use Rattle.jsonptr_json_edits.specs.declared.child.ChildText.{ChildText}
+use Rattle.jsonptr_text_check.specs.Child.{IsReadAs}
+use Rattle.jsonptr_text_check.specs.PrivateChild.{IsCutChild}
+use Rattle.jsonptr_text_check.specs.declared.one_child.ChildText.{ChildText}
 use Rattle.jsonptr_comments_step.proofs.CheckLemmas.{exact_child, empty_text}
 use Rattle.jsonptr_comments_step.proofs.child.value_of.Goals as goal
 

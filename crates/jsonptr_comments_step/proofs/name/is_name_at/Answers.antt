@@ -2,9 +2,9 @@ use Rattle.std.proofs.Common.{◌≡◌, refl, Option, IfSome, ◌∙◌, subst}
 use Rattle.serde_json.specs.Data.{string}
 use Rattle.jsonptr.specs.Text.{Text}
 use Rattle.jsonptr.specs.Pointer.{tokens}
-use Rattle.jsonptr_json_edits.specs.Child.{IsValueText}
+use Rattle.jsonptr_text_check.specs.Child.{IsValueText}
 use Rattle.jsonptr_text_step.specs.Locating.{IsLocated}
-use Rattle.jsonptr_text_step.specs.declared.find.Located.{Located}
+use Rattle.jsonptr_text_step.specs.declared.located.Located.{Located}
 use Rattle.jsonptr_comments_step.proofs.CheckLemmas.{if_so, name_at}
 use Rattle.jsonptr_comments_step.proofs.name.is_name_at.Goals as goal
 

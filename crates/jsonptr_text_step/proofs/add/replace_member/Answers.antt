@@ -4,10 +4,10 @@ use Rattle.jsonptr.specs.Text.{Text}
 use Rattle.jsonptr.specs.Pointer.{tokens}
 use Rattle.jsonptr_text_search.specs.Search.{choices}
 use Rattle.jsonptr_text_search.specs.declared.selector.Selector.{Selector}
-use Rattle.jsonptr_json_edits.specs.Editing.{IsEdited}
+use Rattle.jsonptr_text_check.specs.Editing.{IsEdited}
 use Rattle.jsonptr_text_step.specs.PrivateOperating.{AreMemberChoices}
 use Rattle.jsonptr_text_step.specs.PrivateReaching.{IsValueEdit, SplicesAt}
-use Rattle.jsonptr_text_step.specs.declared.replace.ValueEdit.{ValueEdit}
+use Rattle.jsonptr_text_step.specs.declared.replace.ValueChange.{ValueChange}
 use Rattle.jsonptr_text_step.proofs.OperatingLemmas.{replaced_cut, adds_in_place_of}
 use Rattle.jsonptr_text_step.proofs.BytesLemmas.{replaced_member, adds_there_at}
 use Rattle.jsonptr_text_step.proofs.add.replace_member.Goals as goal
@@ -23,8 +23,8 @@ returns-clause-added c =
     let cs = choices c.deref.result.now in
     let flat = string_bytes c.args.printed.now.flat in
     let are = subst (λ (ss : List Selector). AreMemberChoices front x (choices ss)) (sym c.deref.ensures.value) c.in_ok-selectors.ensures in
-    let is = subst (λ (o : Option ValueEdit). IfSome o (IsValueEdit cut.middle.now flat)) c.in-Some-2.is c.in_ok-made.ensures in
-    let edited = subst (λ (o : Option (String Global)). IfSome o (λ s. IsEdited cut.text.now (string_bytes s) cs made.edit)) c.in-Some-3.is c.in_ok-text.ensures.edited in
+    let is = subst (λ (o : Option ValueChange). IfSome o (IsValueEdit cut.middle.now flat)) c.in-Some-2.is c.in_ok-made.ensures in
+    let edited = subst (λ (o : Option (String Global)). IfSome o (λ s. IsEdited cut.text.now (string_bytes s) cs made.change)) c.in-Some-3.is c.in_ok-text.ensures.edited in
     let reached = replaced_cut old cut.text.now new front x cs cut.middle.now flat made c.in-Some.ensures are is edited in
     adds_in_place_of old new front x cut.middle.now flat reached
 
@@ -39,8 +39,8 @@ returns-clause-bytes c =
     let cs = choices c.deref.result.now in
     let flat = string_bytes c.args.printed.now.flat in
     let are = subst (λ (ss : List Selector). AreMemberChoices front x (choices ss)) (sym c.deref.ensures.value) c.in_ok-selectors.ensures in
-    let is = subst (λ (o : Option ValueEdit). IfSome o (IsValueEdit cut.middle.now flat)) c.in-Some-2.is c.in_ok-made.ensures in
-    let edited = subst (λ (o : Option (String Global)). IfSome o (λ s. IsEdited cut.text.now (string_bytes s) cs made.edit)) c.in-Some-3.is c.in_ok-text.ensures.edited in
+    let is = subst (λ (o : Option ValueChange). IfSome o (IsValueEdit cut.middle.now flat)) c.in-Some-2.is c.in_ok-made.ensures in
+    let edited = subst (λ (o : Option (String Global)). IfSome o (λ s. IsEdited cut.text.now (string_bytes s) cs made.change)) c.in-Some-3.is c.in_ok-text.ensures.edited in
     let reached = replaced_cut old cut.text.now new front x cs cut.middle.now flat made c.in-Some.ensures are is edited in
     let piece = string_bytes made.piece in
     let path = choices c.in_ok-path.path.items in

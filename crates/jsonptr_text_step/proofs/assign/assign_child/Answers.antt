@@ -1,7 +1,7 @@
 use Rattle.std.proofs.Common.{◌≡◌, ◌∷◌, ◌++◌, Option, IfSome, string_bytes, refl, subst}
 use Rattle.jsonptr.specs.Pointer.{tokens}
 use Rattle.jsonptr.specs.Json.{nodes}
-use Rattle.jsonptr_json_edits.specs.declared.value_text.ValueText.{ValueText}
+use Rattle.jsonptr_text_layout.specs.declared.value_text.ValueText.{ValueText}
 use Rattle.jsonptr_text_step.specs.EditInText.{AssignsInText}
 use Rattle.jsonptr_text_value.specs.Wrapping.{IsExpanded}
 use Rattle.jsonptr_text_step.specs.PrivateReaching.{ReachedInText, MemberAdded, ElementAppended}

@@ -3,7 +3,7 @@ use Rattle.jsonptr.specs.Text.{Text}
 use Rattle.jsonptr.specs.Pointer.{tokens}
 use Rattle.jsonptr.specs.Expansion.{expanded}
 use Rattle.jsonptr.specs.Json.{nodes}
-use Rattle.jsonptr_json_edits.specs.declared.value_text.ValueText.{ValueText}
+use Rattle.jsonptr_text_layout.specs.declared.value_text.ValueText.{ValueText}
 use Rattle.jsonptr_text_step.specs.EditInText.{AssignsInText}
 use Rattle.jsonptr_text_value.specs.Wrapping.{IsExpanded}
 use Rattle.jsonptr_text_step.specs.PrivateReaching.{ReachedInText, ScalarBecomes}

@@ -7,7 +7,7 @@ use Rattle.jsonptr.specs.Pointer.{tokens}
 use Rattle.jsonptr.specs.Json.{nodes}
 use Rattle.jsonptr.specs.Content.{map_of}
 use Rattle.jsonptr_tree.proofs.JsonLemmas.{null_is}
-use Rattle.jsonptr_json_edits.specs.declared.value_text.ValueText.{ValueText}
+use Rattle.jsonptr_text_layout.specs.declared.value_text.ValueText.{ValueText}
 use Rattle.jsonptr_text_step.specs.Steps.{ReplacesByText}
 use Rattle.jsonptr_text_step.specs.EditInText.{DeletesInText}
 use Rattle.jsonptr_text_step.specs.PrivateReaching.{ReachedInText, Becomes}

@@ -2,8 +2,8 @@ use Rattle.std.proofs.Common.{◌≡◌, [], ◌∷◌, ◌++◌, Option, String
 use Rattle.std.specs.declared.alloc.Global.{Global}
 use Rattle.jsonptr.specs.Text.{Text}
 use Rattle.jsonptr.specs.Pointer.{tokens}
-use Rattle.jsonptr_json_edits.specs.declared.edit.Edit.TheVariants as edit
-use Rattle.jsonptr_json_edits.specs.Editing.{Makes}
+use Rattle.jsonptr_text_check.specs.declared.change.Change.TheVariants as change
+use Rattle.jsonptr_text_check.specs.Editing.{Makes}
 use Rattle.jsonptr_text_step.specs.PrivateReaching.{ReachedInText, MemberAdded, AddsPieceByText}
 use Rattle.jsonptr_text_step.proofs.EditLemmas.{member_made}
 use Rattle.jsonptr_text_step.proofs.ReachingLemmas.{reached_so}
@@ -18,8 +18,8 @@ returns-clause-reached c =
     let x = c.args.token.now in
     let flat = string_bytes c.args.printed.now.flat in
     let child = c.in_ok-child.child in
-    let made = subst (λ (o : Option (String Global)). IfSome o (λ s. ReachedInText old (string_bytes s) front (Makes (edit.Add child)))) c.in-Some-2.is c.in_ok-text.ensures.reached in
-    let reached = reached_so old new front (Makes (edit.Add child)) (MemberAdded x flat) (λ d d2 m. member_made child x flat d d2 c.in_ok-child.ensures.selects.key_is c.in_ok-child.ensures.value m) made in
+    let made = subst (λ (o : Option (String Global)). IfSome o (λ s. ReachedInText old (string_bytes s) front (Makes (change.Add child)))) c.in-Some-2.is c.in_ok-text.ensures.reached in
+    let reached = reached_so old new front (Makes (change.Add child)) (MemberAdded x flat) (λ d d2 m. member_made child x flat d d2 c.in_ok-child.ensures.selects.key_is c.in_ok-child.ensures.value m) made in
     reached
 
 pub returns-clause-bytes : goal.returns-clause-bytes
@@ -30,8 +30,8 @@ returns-clause-bytes c =
     let x = c.args.token.now in
     let flat = string_bytes c.args.printed.now.flat in
     let child = c.in_ok-child.child in
-    let made = subst (λ (o : Option (String Global)). IfSome o (λ s. ReachedInText old (string_bytes s) front (Makes (edit.Add child)))) c.in-Some-2.is c.in_ok-text.ensures.reached in
-    let reached = reached_so old new front (Makes (edit.Add child)) (MemberAdded x flat) (λ d d2 m. member_made child x flat d d2 c.in_ok-child.ensures.selects.key_is c.in_ok-child.ensures.value m) made in
+    let made = subst (λ (o : Option (String Global)). IfSome o (λ s. ReachedInText old (string_bytes s) front (Makes (change.Add child)))) c.in-Some-2.is c.in_ok-text.ensures.reached in
+    let reached = reached_so old new front (Makes (change.Add child)) (MemberAdded x flat) (λ d d2 m. member_made child x flat d d2 c.in_ok-child.ensures.selects.key_is c.in_ok-child.ensures.value m) made in
     let named : c.as_str-2.result.now ≡ x = c.as_str-2.ensures.value ∙ c.in_ok-key.ensures.cases ∙ c.in_ok-child.ensures.selects.key_is in
     let put = subst (λ (o : Option (String Global)). IfSome o (λ s. AddsPieceByText old (string_bytes s) (front ++ x ∷ []) (Some c.as_str-2.result.now) c.as_str-3.result.now)) c.in-Some-2.is c.in_ok-text.ensures.bytes in
     adds_new_member old new front x flat reached

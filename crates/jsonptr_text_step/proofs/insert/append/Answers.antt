@@ -2,8 +2,8 @@ use Rattle.std.proofs.Common.{[], ◌∷◌, ◌++◌, Option, String, None, IfS
 use Rattle.std.specs.declared.alloc.Global.{Global}
 use Rattle.jsonptr.specs.Text.{Text}
 use Rattle.jsonptr.specs.Pointer.{tokens}
-use Rattle.jsonptr_json_edits.specs.declared.edit.Edit.TheVariants as edit
-use Rattle.jsonptr_json_edits.specs.Editing.{Makes}
+use Rattle.jsonptr_text_check.specs.declared.change.Change.TheVariants as change
+use Rattle.jsonptr_text_check.specs.Editing.{Makes}
 use Rattle.jsonptr_text_step.specs.PrivateReaching.{ReachedInText, ElementAppended, AddsPieceByText}
 use Rattle.jsonptr_text_step.proofs.BytesLemmas.{element_appended, adds_last_element}
 use Rattle.jsonptr_text_step.proofs.ReachingLemmas.{reached_so}
@@ -18,8 +18,8 @@ returns-clause-reached c =
     let flat = string_bytes c.args.printed.now.flat in
     let child = c.in_ok-child.child in
     let i = c.in-Some-append_index.index in
-    let made = subst (λ (o : Option (String Global)). IfSome o (λ s. ReachedInText old (string_bytes s) front (Makes (edit.Append child)))) c.in-Some-2.is c.in_ok-text.ensures.reached in
-    reached_so old new front (Makes (edit.Append child)) (ElementAppended x flat) (λ d d2 m. element_appended child x flat i d d2 c.in_ok-child.ensures.index c.in-Some-append_index.ensures c.in_ok-child.ensures.value m) made
+    let made = subst (λ (o : Option (String Global)). IfSome o (λ s. ReachedInText old (string_bytes s) front (Makes (change.Append child)))) c.in-Some-2.is c.in_ok-text.ensures.reached in
+    reached_so old new front (Makes (change.Append child)) (ElementAppended x flat) (λ d d2 m. element_appended child x flat i d d2 c.in_ok-child.ensures.index c.in-Some-append_index.ensures c.in_ok-child.ensures.value m) made
 
 pub returns-clause-bytes : goal.returns-clause-bytes
 returns-clause-bytes c =
@@ -30,7 +30,7 @@ returns-clause-bytes c =
     let flat = string_bytes c.args.printed.now.flat in
     let child = c.in_ok-child.child in
     let i = c.in-Some-append_index.index in
-    let made = subst (λ (o : Option (String Global)). IfSome o (λ s. ReachedInText old (string_bytes s) front (Makes (edit.Append child)))) c.in-Some-2.is c.in_ok-text.ensures.reached in
+    let made = subst (λ (o : Option (String Global)). IfSome o (λ s. ReachedInText old (string_bytes s) front (Makes (change.Append child)))) c.in-Some-2.is c.in_ok-text.ensures.reached in
     let put = subst (λ (o : Option (String Global)). IfSome o (λ s. AddsPieceByText old (string_bytes s) (front ++ c.in_ok-refers.refers ∷ []) None c.as_str.result.now)) c.in-Some-2.is c.in_ok-text.ensures.bytes in
     adds_last_element old new front x flat child i c.in_ok-child.ensures.index c.in-Some-append_index.ensures made
     (subst (λ (t : Text). AddsPieceByText old new (front ++ t ∷ []) None flat) c.in_ok-refers.ensures

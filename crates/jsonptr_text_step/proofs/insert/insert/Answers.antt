@@ -2,8 +2,8 @@ use Rattle.std.proofs.Common.{[], ◌∷◌, ◌++◌, Option, String, None, IfS
 use Rattle.std.specs.declared.alloc.Global.{Global}
 use Rattle.jsonptr.specs.Text.{Text}
 use Rattle.jsonptr.specs.Pointer.{tokens}
-use Rattle.jsonptr_json_edits.specs.declared.edit.Edit.TheVariants as edit
-use Rattle.jsonptr_json_edits.specs.Editing.{Makes}
+use Rattle.jsonptr_text_check.specs.declared.change.Change.TheVariants as change
+use Rattle.jsonptr_text_check.specs.Editing.{Makes}
 use Rattle.jsonptr_text_step.specs.PrivateReaching.{ReachedInText, AddsPieceByText}
 use Rattle.jsonptr_text_step.specs.PrivateOperating.{ElementInserted}
 use Rattle.jsonptr_text_step.proofs.ReachingLemmas.{reached_so}
@@ -18,8 +18,8 @@ returns-clause-reached c =
     let x = c.args.token.now in
     let flat = string_bytes c.args.printed.now.flat in
     let child = c.in_ok-child.child in
-    let made = subst (λ (o : Option (String Global)). IfSome o (λ s. ReachedInText old (string_bytes s) front (Makes (edit.Insert child)))) c.in-Some-2.is c.in_ok-text.ensures.reached in
-    let reached = reached_so old new front (Makes (edit.Insert child)) (ElementInserted x flat) (λ d d2 m. element_inserted child x flat d d2 c.in_ok-child.ensures.selects c.in_ok-child.ensures.value m) made in
+    let made = subst (λ (o : Option (String Global)). IfSome o (λ s. ReachedInText old (string_bytes s) front (Makes (change.Insert child)))) c.in-Some-2.is c.in_ok-text.ensures.reached in
+    let reached = reached_so old new front (Makes (change.Insert child)) (ElementInserted x flat) (λ d d2 m. element_inserted child x flat d d2 c.in_ok-child.ensures.selects c.in_ok-child.ensures.value m) made in
     reached
 
 pub returns-clause-bytes : goal.returns-clause-bytes
@@ -30,8 +30,8 @@ returns-clause-bytes c =
     let x = c.args.token.now in
     let flat = string_bytes c.args.printed.now.flat in
     let child = c.in_ok-child.child in
-    let made = subst (λ (o : Option (String Global)). IfSome o (λ s. ReachedInText old (string_bytes s) front (Makes (edit.Insert child)))) c.in-Some-2.is c.in_ok-text.ensures.reached in
-    let reached = reached_so old new front (Makes (edit.Insert child)) (ElementInserted x flat) (λ d d2 m. element_inserted child x flat d d2 c.in_ok-child.ensures.selects c.in_ok-child.ensures.value m) made in
+    let made = subst (λ (o : Option (String Global)). IfSome o (λ s. ReachedInText old (string_bytes s) front (Makes (change.Insert child)))) c.in-Some-2.is c.in_ok-text.ensures.reached in
+    let reached = reached_so old new front (Makes (change.Insert child)) (ElementInserted x flat) (λ d d2 m. element_inserted child x flat d d2 c.in_ok-child.ensures.selects c.in_ok-child.ensures.value m) made in
     let put = subst (λ (o : Option (String Global)). IfSome o (λ s. AddsPieceByText old (string_bytes s) (front ++ x ∷ []) None c.as_str.result.now)) c.in-Some-2.is c.in_ok-text.ensures.bytes in
     adds_new_element old new front x flat reached
     (subst (λ (f : Text). AddsPieceByText old new (front ++ x ∷ []) None f) c.as_str.ensures.value put)

@@ -5,8 +5,8 @@ use Rattle.serde_json.specs.Data.{Data}
 use Rattle.serde_json.specs.Read.{read}
 use Rattle.jsonptr.specs.Text.{Text}
 use Rattle.jsonptr.specs.Pointer.{tokens}
-use Rattle.jsonptr_json_edits.specs.PrivateChild.{IsCutChild}
-use Rattle.jsonptr_json_edits.specs.declared.child.ChildText.{ChildText}
+use Rattle.jsonptr_text_check.specs.PrivateChild.{IsCutChild}
+use Rattle.jsonptr_text_check.specs.declared.one_child.ChildText.{ChildText}
 use Rattle.jsonptr_text_step.specs.Placing.{IsAt}
 use Rattle.jsonptr_text_step.proofs.BytesLemmas.{piece_added}
 use Rattle.jsonptr_text_step.proofs.insert.put_child.Goals as goal

@@ -1,6 +1,6 @@
 use Rattle.std.proofs.Common.{Option, IfSome, string_bytes, subst}
 use Rattle.jsonptr.specs.Pointer.{tokens}
-use Rattle.jsonptr_json_edits.specs.declared.value_text.ValueText.{ValueText}
+use Rattle.jsonptr_text_layout.specs.declared.value_text.ValueText.{ValueText}
 use Rattle.jsonptr_text_step.specs.Steps.{AddsInText, AddsAtByText}
 use Rattle.jsonptr_text_step.specs.PrivateOperating.{FindsText, CopiesInText}
 use Rattle.jsonptr_text_step.proofs.EditLemmas.{if_new}

@@ -2,7 +2,7 @@ use Rattle.std.proofs.Common.{Option, IfSome, trueâ‰¢false, string_bytes, sym, â
 use Rattle.jsonptr.specs.Text.{Text}
 use Rattle.jsonptr.specs.Pointer.{tokens}
 use Rattle.jsonptr_patch.specs.Operating.{IsProperPrefix}
-use Rattle.jsonptr_json_edits.specs.declared.value_text.ValueText.{ValueText}
+use Rattle.jsonptr_text_layout.specs.declared.value_text.ValueText.{ValueText}
 use Rattle.jsonptr_text_step.specs.declared.plan.Made.{Made}
 use Rattle.jsonptr_text_step.specs.Steps.{AddsInText, AddsAtByText}
 use Rattle.jsonptr_text_step.specs.Bytes.{DeletesBytes}

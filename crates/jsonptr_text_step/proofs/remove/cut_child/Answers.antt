@@ -2,9 +2,9 @@ use Rattle.std.proofs.Common.{◌≡◌, [], ◌∷◌, ◌++◌, Option, IfSome
 use Rattle.serde_json.specs.Data.{Data}
 use Rattle.jsonptr.specs.Text.{Text}
 use Rattle.jsonptr.specs.Pointer.{tokens}
-use Rattle.jsonptr_json_edits.specs.Child.{IsReadAs}
-use Rattle.jsonptr_json_edits.specs.PrivateChild.{IsCutChild}
-use Rattle.jsonptr_json_edits.specs.declared.child.ChildText.{ChildText}
+use Rattle.jsonptr_text_check.specs.Child.{IsReadAs}
+use Rattle.jsonptr_text_check.specs.PrivateChild.{IsCutChild}
+use Rattle.jsonptr_text_check.specs.declared.one_child.ChildText.{ChildText}
 use Rattle.jsonptr_text_step.proofs.BytesLemmas.{child_cut}
 use Rattle.jsonptr_text_step.proofs.remove.cut_child.Goals as goal
 

@@ -1,7 +1,7 @@
 use Rattle.std.proofs.Common.{[], ◌∷◌, ◌++◌, List, ℕ, Option, Some, None, IfSome, string_bytes, refl, subst}
 use Rattle.serde_json.specs.Data.{Data}
 use Rattle.jsonptr.specs.Pointer.{tokens}
-use Rattle.jsonptr_json_edits.specs.Child.{IsReadAs}
+use Rattle.jsonptr_text_check.specs.Child.{IsReadAs}
 use Rattle.jsonptr_text_step.specs.declared.remove.Shorter.{Shorter}
 use Rattle.jsonptr_text_step.specs.Bytes.{CutsBytes}
 use Rattle.jsonptr_text_step.proofs.remove.cut_in_turn.Goals as goal

@@ -5,7 +5,7 @@ use Rattle.serde_json.specs.Read.{read}
 use Rattle.jsonptr.specs.Text.{Text}
 use Rattle.jsonptr.specs.Pointer.{tokens}
 use Rattle.jsonptr_text_search.specs.Search.{choice_of}
-use Rattle.jsonptr_json_edits.specs.Editing.{AddsChosenMember}
+use Rattle.jsonptr_text_check.specs.Editing.{AddsChosenMember}
 use Rattle.jsonptr_text_step.specs.declared.remove.Shorter.{Shorter}
 use Rattle.jsonptr_text_step.specs.Bytes.{CutsBytes, CutsInTurn}
 use Rattle.jsonptr_text_step.specs.PrivateReaching.{ReachedInText}

@@ -2,7 +2,7 @@ use Rattle.std.proofs.Common.{[], ◌∷◌, ◌++◌, List, subst}
 use Rattle.jsonptr.specs.Pointer.{tokens}
 use Rattle.jsonptr_text_search.specs.Search.{choices}
 use Rattle.jsonptr_text_search.specs.declared.selector.Selector.{Selector}
-use Rattle.jsonptr_json_edits.specs.Leading.{LeadsInText}
+use Rattle.jsonptr_text_check.specs.Leading.{LeadsInText}
 use Rattle.jsonptr_text_step.specs.PrivateOperating.{FindsText}
 use Rattle.jsonptr_text_step.proofs.EditLemmas.{if_true}
 use Rattle.jsonptr_text_step.proofs.OperatingLemmas.{finds_text}

@@ -2,9 +2,9 @@ use Rattle.std.proofs.Common.{◌≡◌, [], ◌∷◌, ◌++◌, Option, IfSome
 use Rattle.serde_json.specs.Data.{string}
 use Rattle.jsonptr.specs.Text.{Text}
 use Rattle.jsonptr.specs.Pointer.{tokens}
-use Rattle.jsonptr_json_edits.specs.Child.{IsValueText}
-use Rattle.jsonptr_json_edits.specs.Spacing.{IsSpaced, IsTrimmed}
-use Rattle.jsonptr_json_edits.specs.declared.member.MemberText.{MemberText}
+use Rattle.jsonptr_text_check.specs.Child.{IsValueText}
+use Rattle.jsonptr_text_piece.specs.Spacing.{IsSpaced, IsTrimmed}
+use Rattle.jsonptr_text_check.specs.declared.member.MemberText.{MemberText}
 use Rattle.jsonptr_text_step.specs.declared.plan.Made.{Made}
 use Rattle.jsonptr_text_step.specs.Placing.{IsAt}
 use Rattle.jsonptr_text_step.specs.PrivateRenaming.{IsNamedAnew}

@@ -1,7 +1,7 @@
 use Rattle.std.proofs.Common.{◌≡◌, [], ◌∷◌, ◌++◌, List, string_bytes, sym, ap, ◌∙◌, subst}
 use Rattle.jsonptr.specs.Pointer.{tokens}
 use Rattle.jsonptr.specs.Text.{Text}
-use Rattle.jsonptr_json_edits.specs.Editing.{RenamesMember}
+use Rattle.jsonptr_text_check.specs.Editing.{RenamesMember}
 use Rattle.jsonptr_text_step.specs.PrivateReaching.{ReachedInText}
 use Rattle.jsonptr_text_step.specs.PrivateRenaming.{IsMemberInText}
 use Rattle.jsonptr_text_step.specs.Renaming.{RenamesInText}

@@ -3,7 +3,7 @@ use Rattle.serde_json.specs.Data.{Data}
 use Rattle.serde_json.specs.Read.{read}
 use Rattle.jsonptr.specs.Text.{Text}
 use Rattle.json.specs.Lex.{tokens as lexed}
-use Rattle.jsonptr_json_edits.specs.Child.{IsValueText}
+use Rattle.jsonptr_text_check.specs.Child.{IsValueText}
 use Rattle.jsonptr_text_step.proofs.replace.value_edit.Goals as goal
 
 pub returns : goal.returns
@@ -16,7 +16,7 @@ returns c =
     record {
       before = c.in_ok-from_str.field-0;
       after = c.in_ok-clone.field-0;
-      edit = refl;
+      change = refl;
       old = c.in_ok-from_str.ensures.ok;
       new = c.in_ok-clone.ensures.cases;
       trimmed = c.is_trimmed.ensures c.if-not-is_trimmed.false;

@@ -4,7 +4,7 @@ use Rattle.jsonptr.specs.Assign.{RefusesAssign}
 use Rattle.jsonptr.specs.Json.{nodes}
 use Rattle.jsonptr.specs.Pointer.{tokens}
 use Rattle.jsonptr_text_step.specs.EditInText.{IsAssignError}
-use Rattle.jsonptr_text_step.specs.declared.edited.EditError.TheVariants.{Refused}
+use Rattle.jsonptr_text_step.specs.declared.stepped.StepError.TheVariants.{Refused}
 use Rattle.jsonptr_text_step.proofs.RewritingLemmas.{refused_whole, assigned_then, assign_fails_then}
 use Rattle.jsonptr_text_step.proofs.rewrite.assign_and_print.Goals as goal
 

@@ -3,7 +3,7 @@ use Rattle.jsonptr.specs.Text.{Text}
 use Rattle.jsonptr.specs.Pointer.{tokens}
 use Rattle.jsonptr_text_search.specs.Search.{choices}
 use Rattle.jsonptr_text_search.specs.declared.selector.Selector.{Selector}
-use Rattle.jsonptr_json_edits.specs.Leading.{LeadsInText}
+use Rattle.jsonptr_text_check.specs.Leading.{LeadsInText}
 use Rattle.jsonptr_text_step.proofs.OperatingLemmas.{finds_text}
 use Rattle.jsonptr_text_step.proofs.value_at.value_at.Goals as goal
 

@@ -1,5 +1,5 @@
 use Rattle.std.proofs.Common.{Option, IfSome, string_bytes, refl, subst}
-use Rattle.jsonptr_json_edits.specs.Alike.{HoldsTokens}
+use Rattle.jsonptr_text_check.specs.Alike.{HoldsTokens}
 use Rattle.jsonptr_text_value.specs.declared.raw_value.RawValue.{RawValue}
 use Rattle.jsonptr_text_value.proofs.operations.with_own.Goals as goal
 

@@ -1,5 +1,0 @@
-use Rattle.std.proofs.Common.{length}
-use Rattle.jsonptr_json_edits.proofs.locate.members.Given as goal
-
-abbrev pub decreases-members : goal.decreases-members
-decreases-members l = length l.reader
