@@ -4,7 +4,7 @@ ghost use Rattle.serde_json.specs.Data.{Data};
 ghost use Rattle.serde_json.specs.Read.{read as read_text};
 ghost use Rattle.serde_json.specs.View.{view};
 ghost use Rattle.serde_json.specs.declared.value.Value.{Value};
-ghost use Rattle.jsonptr_c_handle.specs.Handle.{IsEmpty, Keeps};
+ghost use Rattle.jsonptr_c_calls.specs.Handle.{IsEmpty, Keeps};
 ghost use Rattle.jsonptr_c_calls.specs.Depths.{IsBounded};
 ghost use Rattle.jsonptr_text_digits.specs.Digits.{KeepsDigits};
 ghost use Rattle.jsonptr_text_digits.specs.Lost.{Loses};
@@ -21,10 +21,10 @@ ghost use Rattle.jsonptr_c_calls.specs.Values.{Changes, FindsTextOf, FindsString
 ghost use Rattle.jsonptr_c_calls.specs.declared.call_error.CallError.{CallError};
 
 use jsonptr_c_calls::error_numbers::ErrorRecord;
+use jsonptr_c_calls::handle::Handle;
 use jsonptr_c_calls::node::NodeInfo;
 use jsonptr_c_calls::outcome::{fail, fail_with_length, succeed};
 use jsonptr_c_calls::{documents, texts};
-use jsonptr_c_handle::handle::Handle;
 use jsonptr_text_resolve::Format;
 use std::alloc::Global;
 

@@ -15,7 +15,7 @@ use Rattle.jsonptr.specs.Text.{Text}
 use Rattle.jsonptr.specs.Types.ParseError.{ParseError}
 use Rattle.jsonptr.proofs.Calling.{IsPointer-text, map_of-IsTree, map_of-finite, text_one, FindsValue_one, Refuses-NamesNothing}
 use Rattle.jsonptr.specs.Grammar.{IsPointer}
-use Rattle.jsonptr_c_handle.specs.declared.handle.Handle.{Handle}
+use Rattle.jsonptr_c_calls.specs.declared.handle.Handle.{Handle}
 use Rattle.jsonptr_c_calls.specs.Editing.{IsNotAssigned, IsNotDeleted, IsTextNotAssigned, RefusesAt}
 use Rattle.jsonptr_text_digits.specs.declared.lost.Lost.{Lost}
 use Rattle.jsonptr_c_calls.specs.Exactness.{IsNotParsedExactly, LacksPointerOfNumber}

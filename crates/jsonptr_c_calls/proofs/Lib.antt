@@ -1,3 +1,5 @@
+pub mod ApartSteps
+pub mod SlotSteps
 pub mod PointerLemmas
 mod NestingLemmas
 mod BoundLemmas

@@ -48,8 +48,8 @@ use Rattle.jsonptr_patch_document.specs.declared.error.PatchDocumentError.{Patch
 use Rattle.jsonptr_patch_document.specs.Writing.{document_of}
 use Rattle.jsonptr_patch_document.proofs.SameLemmas.{same_effects}
 use Rattle.jsonptr_patch_document.proofs.SortingLemmas.{patch_sorted}
-use Rattle.jsonptr_c_handle.specs.Handle.{Holds}
-use Rattle.jsonptr_c_handle.specs.declared.handle.Handle.{Handle}
+use Rattle.jsonptr_c_calls.specs.Handle.{Holds}
+use Rattle.jsonptr_c_calls.specs.declared.handle.Handle.{Handle}
 use Rattle.jsonptr_c_calls.specs.Depths.{HasFewTokens, StaysShallow, descent, descent_of, level_of, max_levels}
 use Rattle.jsonptr_c_calls.specs.Editing.{AssignsAtPointer, DeletesAtPointer, IsNotAssigned, IsNotDeleted, IsTextNotAssigned, RefusesAt}
 use Rattle.jsonptr_c_calls.specs.Exactness.{IsNotParsedBy, IsNotParsedExactly, IsNotPointedTo, LacksPointerOfFloat, LacksPointerOfLost, LosesDigits, LosesDigitsOfFloat, LosesFloat}

@@ -10,7 +10,7 @@ use Rattle.jsonptr.specs.Json.{nodes, FindsValue}
 use Rattle.jsonptr.specs.Removing.{Deletes}
 use Rattle.jsonptr.specs.Text.{Text}
 use Rattle.jsonptr.specs.declared.assign.Error as assign
-use Rattle.jsonptr_c_handle.specs.declared.handle.Handle.{Handle}
+use Rattle.jsonptr_c_calls.specs.declared.handle.Handle.{Handle}
 use Rattle.jsonptr_c_calls.specs.Depths.{HasFewTokens, max_levels}
 use Rattle.jsonptr_c_calls.specs.Failures.{FailsOnHandle, IsNoPointer, IsNotParsed, IsOutOfMemory}
 use Rattle.jsonptr_c_calls.specs.Pointers.{HasTokens, ParsesTo}

@@ -12,8 +12,8 @@ use Rattle.jsonptr.specs.Types.ParseError.{ParseError}
 use Rattle.jsonptr.specs.ParseError.{IsParseErrorOf}
 use Rattle.jsonptr.specs.Resolve.{Refuses}
 use Rattle.jsonptr.specs.declared.resolve.Error as resolve
-use Rattle.jsonptr_c_handle.specs.Handle.{Holds, IsEmpty}
-use Rattle.jsonptr_c_handle.specs.declared.handle.Handle.{Handle}
+use Rattle.jsonptr_c_calls.specs.Handle.{Holds, IsEmpty}
+use Rattle.jsonptr_c_calls.specs.declared.handle.Handle.{Handle}
 use Rattle.jsonptr_c_calls.specs.Pointers.{ParsesTo}
 use Rattle.jsonptr_c_calls.specs.ErrorNumbers.{status_number}
 use Rattle.jsonptr_c_calls.specs.Values.{FindsAtPointer, IsJsonText}

@@ -1,4 +1,6 @@
 -- What the calls for C return, and why they fail.
+pub mod Slot
+pub mod Handle
 pub mod Pointers
 pub mod Depths
 pub mod Failures

@@ -14,7 +14,7 @@ use Rattle.jsonptr_patch.specs.declared.comparison.Comparison.TheVariants.{Numer
 use Rattle.jsonptr_patch_document.specs.Document.{IsPatch, IsNoPatch}
 use Rattle.jsonptr_patch_document.specs.Writing.{document_of}
 use Rattle.jsonptr_patch_document.specs.declared.error.PatchDocumentError.{PatchDocumentError}
-use Rattle.jsonptr_c_handle.specs.declared.handle.Handle.{Handle}
+use Rattle.jsonptr_c_calls.specs.declared.handle.Handle.{Handle}
 use Rattle.jsonptr_patch_diff.specs.Diff.{IsChange, StepsTo}
 use Rattle.jsonptr_c_calls.specs.Depths.{StaysShallow}
 use Rattle.jsonptr_c_calls.specs.Failures.{FailsOnHandle, IsNotParsed, IsOutOfMemory, LacksRoom}

@@ -7,8 +7,8 @@ use Rattle.serde_json.specs.declared.value.Value.{Value}
 use Rattle.jsonptr.specs.Json.{FindsValue}
 use Rattle.jsonptr.specs.Text.{Text}
 use Rattle.jsonptr_value.specs.JsonText.{IsCompact, IsPretty}
-use Rattle.jsonptr_c_handle.specs.Handle.{Holds}
-use Rattle.jsonptr_c_handle.specs.declared.handle.Handle.{Handle}
+use Rattle.jsonptr_c_calls.specs.Handle.{Holds}
+use Rattle.jsonptr_c_calls.specs.declared.handle.Handle.{Handle}
 use Rattle.jsonptr_c_calls.specs.Pointers.{HasTokens}
 use Rattle.jsonptr_text_resolve.specs.declared.format.Format.{Format}
 use Rattle.jsonptr_text_resolve.specs.declared.format.Format.TheVariants.{Compact, Pretty}

@@ -3,7 +3,7 @@ ghost use Rattle.std.specs.Prelude.{◌≡◌, ◌≤◌, ◌⊎◌, IfErr, IfOk
 ghost use Rattle.serde_json.specs.Read.{read as read_text};
 ghost use Rattle.serde_json.specs.View.{view};
 ghost use Rattle.serde_json.specs.declared.value.Value.{Value as JsonValue};
-ghost use Rattle.jsonptr_c_handle.specs.Handle.{Holds, IsEmpty, Keeps};
+ghost use Rattle.jsonptr_c_calls.specs.Handle.{Holds, IsEmpty, Keeps};
 ghost use Rattle.jsonptr_c_calls.specs.Depths.{IsBounded};
 ghost use Rattle.jsonptr_text_digits.specs.Digits.{KeepsDigits};
 ghost use Rattle.jsonptr_c_calls.specs.Exactness.{IsNotParsedExactly};
@@ -14,11 +14,11 @@ ghost use Rattle.jsonptr_c_calls.specs.Patches.{AppliesText, AppliesWithInverse,
 ghost use Rattle.jsonptr_c_calls.specs.Values.{Changes, FindsTextOf, FindsString, HoldsWith, ReadsInto};
 
 use crate::call_error::CallError;
+use crate::handle::Handle;
 use crate::node::NodeInfo;
 use crate::patches::Patched;
 use crate::read::{read, read_exactly};
 use crate::{edit, patches, values};
-use jsonptr_c_handle::handle::Handle;
 use jsonptr_text_resolve::Format;
 use serde_json::Value;
 use std::alloc::{AllocError, Global};

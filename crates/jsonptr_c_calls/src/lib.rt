@@ -7,12 +7,14 @@
 //! `rt.alloc()`, the allocator.
 #![tactic(auto)]
 
+mod apart;
 pub mod buffer;
 pub mod call_error;
 pub mod depths;
 pub mod documents;
 pub mod edit;
 pub mod error_numbers;
+pub mod handle;
 pub mod laws;
 pub mod locations;
 pub mod message;
@@ -21,5 +23,6 @@ pub mod outcome;
 pub mod patches;
 pub mod pointers;
 pub mod read;
+mod slot;
 pub mod texts;
 pub mod values;

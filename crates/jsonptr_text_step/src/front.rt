@@ -46,13 +46,13 @@ pub fn leads_after(
     let Some(tail) = after_front(text, front) else {
         return Ok(false);
     };
-    let route = ValueAt {
+    let there = ValueAt {
         selectors: target.selectors,
         positions: target.positions,
         value: target.value,
         tail,
     };
-    leads_to(buffers, text, route)
+    leads_to(buffers, text, there)
 }
 
 /// A child of an array or an object in a text.
@@ -94,13 +94,13 @@ pub fn is_child_after(
     let mut positions = Vec::new(alloc);
     positions.extend_from_slice(child.above)?;
     positions.push(child.position)?;
-    let route = ValueAt {
+    let there = ValueAt {
         selectors: &selectors,
         positions: &positions,
         value: parts.value,
         tail,
     };
-    leads_to(buffers, text.text, route)
+    leads_to(buffers, text.text, there)
 }
 
 /// A text and what it begins with.

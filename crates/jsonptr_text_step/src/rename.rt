@@ -273,11 +273,11 @@ fn leads_to_member(
 {
     let alloc = buffers.alloc;
     let selectors = child_selectors(alloc, renamed.site.pointer, renamed.token)?;
-    let route = ValueAt {
+    let there = ValueAt {
         selectors: &selectors,
         positions: &renamed.site.place.positions,
         value: renamed.member.value,
         tail: renamed.member.tail,
     };
-    leads_to(buffers, text, route)
+    leads_to(buffers, text, there)
 }

@@ -6,7 +6,7 @@ ghost use Rattle.serde_json.specs.View.{view};
 ghost use Rattle.jsonptr.specs.Text.{Text};
 ghost use Rattle.jsonptr.specs.declared.resolve.Error.{Error};
 ghost use Rattle.jsonptr_text_resolve.specs.InText.{FindsInText};
-ghost use Rattle.jsonptr_json_edits.specs.Child.{IsValueText};
+ghost use Rattle.jsonptr_text_check.specs.Child.{IsValueText};
 ghost use Rattle.jsonptr_text_step.specs.Locating.{IsOutside};
 ghost use Rattle.jsonptr_c_calls.specs.InTexts.{FindsTextIn, IsNotPrintedFrom};
 ghost use Rattle.jsonptr_value.specs.NodeTypes.{type_of};
@@ -19,9 +19,9 @@ ghost use Rattle.jsonptr_c_calls.specs.declared.call_error.CallError.TheVariants
 ghost use Rattle.jsonptr_text_resolve.specs.declared.format.Format.TheVariants.{Compact};
 
 use jsonptr_c_calls::call_error::CallError;
+use jsonptr_c_calls::handle::Handle;
 use jsonptr_c_calls::node::STRING;
 use jsonptr_c_calls::{documents, locations, texts};
-use jsonptr_c_handle::handle::Handle;
 use jsonptr_text_resolve::Format;
 use std::alloc::Global;
 

@@ -9,7 +9,7 @@ ghost use Rattle.jsonptr_c_calls.specs.Values.{HoldsWith, FindsTextOf};
 
 use jsonptr_c_calls::call_error::CallError;
 use jsonptr_c_calls::documents;
-use jsonptr_c_handle::handle::Handle;
+use jsonptr_c_calls::handle::Handle;
 use jsonptr_text_resolve::Format;
 use std::alloc::Global;
 

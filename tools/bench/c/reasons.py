@@ -31,13 +31,13 @@ PATCHING = [KERNEL, MEMORY, ("clearing the reader's index, at each text", r"mems
             ("the operations: members, pointers, copies of values",
              r"jsonptr_patch_document|value::Value::get|Index|jsonptr_syntax|memchr|memrchr|serde_json::clone|bcmp|memcmp|strlen"),
             ("applying them, and the journal", r"jsonptr_walk|jsonptr_patch_journal|jsonptr_patch|jsonptr_document|jsonptr_base|jsonptr::"),
-            ("the call: handle, depth, record", r"jsonptr_c_calls|jsonptrcore|jsonptr_c_handle|jsonptr_document_patch"), READING]
+            ("the call: handle, depth, record", r"jsonptr_c_calls|jsonptrcore|jsonptr_document_patch"), READING]
 ROWS = [
     ("find a member", 1500, [KERNEL, MEMORY,
                              ("testing that the pointer is UTF-8 and a JSON Pointer", r"jsonptr_syntax|memchr|utf8|pointers::parse"),
                              ("decoding its tokens and finding the members", r"jsonptr::|jsonptr_base|jsonptr_walk|jsonptr_document::|"
                               r"BTreeMap|btree|serde_json|memcmp|bcmp|memmove|memcpy"),
-                             ("the call: handle, record, type of the value", r"jsonptr_c_calls|jsonptrcore|jsonptr_c_handle|"
+                             ("the call: handle, record, type of the value", r"jsonptr_c_calls|jsonptrcore|"
                               r"jsonptr_document_node|ours_node|strlen|memset")]),
     ("read, find and print", 60, [KERNEL, MEMORY, DROPPING,
                                   ("putting members into sorted maps", r"BTreeMap|btree"), READING]),

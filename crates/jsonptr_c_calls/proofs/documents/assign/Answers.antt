@@ -1,6 +1,6 @@
 use Rattle.std.proofs.Common.{sym, subst}
 use Rattle.serde_json.specs.View.{view}
-use Rattle.jsonptr_c_handle.specs.Handle.{Holds}
+use Rattle.jsonptr_c_calls.specs.Handle.{Holds}
 use Rattle.jsonptr_c_calls.proofs.BoundLemmas.{if_ok, bounded-assign}
 use Rattle.jsonptr_c_calls.proofs.documents.assign.Goals as goal
 

@@ -1,5 +1,5 @@
 use Rattle.std.proofs.Common.{Bool, sym, subst}
-use Rattle.jsonptr_c_handle.specs.Handle.{Holds}
+use Rattle.jsonptr_c_calls.specs.Handle.{Holds}
 use Rattle.jsonptr_c_calls.proofs.BoundLemmas.{if_ok, bounded-delete}
 use Rattle.jsonptr_c_calls.proofs.documents.delete.Goals as goal
 

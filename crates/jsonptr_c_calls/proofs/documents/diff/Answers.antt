@@ -1,5 +1,5 @@
 use Rattle.std.proofs.Common.{inr, sym, subst}
-use Rattle.jsonptr_c_handle.specs.Handle.{Holds}
+use Rattle.jsonptr_c_calls.specs.Handle.{Holds}
 use Rattle.jsonptr_c_calls.proofs.CopyLemmas.{if_err}
 use Rattle.jsonptr_c_calls.proofs.documents.diff.Goals as goal
 

@@ -1,5 +1,5 @@
 use Rattle.std.proofs.Common.{sym, subst}
-use Rattle.jsonptr_c_handle.specs.Handle.{Holds}
+use Rattle.jsonptr_c_calls.specs.Handle.{Holds}
 use Rattle.jsonptr_c_calls.proofs.BoundLemmas.{if_ok_three}
 use Rattle.jsonptr_c_calls.proofs.NestingLemmas.{all_sorted, bounded-patch}
 use Rattle.jsonptr_c_calls.proofs.documents.patch.Goals as goal

@@ -1,6 +1,6 @@
 use Rattle.std.proofs.Common.{inl, inr, List, ℕ, sym, subst}
 use Rattle.serde_json.specs.View.{view}
-use Rattle.jsonptr_c_handle.specs.Handle.{Holds}
+use Rattle.jsonptr_c_calls.specs.Handle.{Holds}
 use Rattle.jsonptr_c_calls.specs.Patches.{IsInverseText}
 use Rattle.jsonptr_c_calls.proofs.CopyLemmas.{if_err, if_ok_held}
 use Rattle.jsonptr_c_calls.proofs.NestingLemmas.{all_sorted, bounded-patch}

@@ -19,7 +19,7 @@ pub struct Handle {
 }
 
 impl Handle {
-    ghost use Rattle.jsonptr_c_handle.specs.Handle.{Holds, IsEmpty};
+    ghost use Rattle.jsonptr_c_calls.specs.Handle.{Holds, IsEmpty};
 
     /// Returns a handle that holds no document.
     pub fn empty() -> Handle

@@ -31,12 +31,12 @@ use Rattle.core.proofs.atomic.Steps.{fm}
 use Rattle.std_alloc.proofs.BoxSteps.Form as boxed
 use Rattle.std_alloc.proofs.BoxSteps.Steps.{box_out, box_in}
 use Rattle.std.proofs.raw_atomic.Walks.{proved_at, leaves}
-use Rattle.jsonptr_c_handle.proofs.ApartSteps.{pair, pair_fits, apart_made, heap}
+use Rattle.jsonptr_c_calls.proofs.ApartSteps.{pair, pair_fits, apart_made, heap}
 use Rattle.std_alloc.specs.contracts.boxed.Box.into_raw_with_allocator as callee
 use Rattle.std_alloc.proofs.boxed.Box.into_raw_with_allocator.Met.{met}
-use Rattle.jsonptr_c_handle.specs.contracts.apart.Apart.from_box as f
-use Rattle.jsonptr_c_handle.proofs.apart.Apart.from_box.Statement.{statement}
-use Rattle.jsonptr_c_handle.proofs.apart.Apart.from_box.Code as code
+use Rattle.jsonptr_c_calls.specs.contracts.apart.Apart.from_box as f
+use Rattle.jsonptr_c_calls.proofs.apart.Apart.from_box.Statement.{statement}
+use Rattle.jsonptr_c_calls.proofs.apart.Apart.from_box.Code as code
 
 pub from_box_spec : {M : Type 1} → statement M
 from_box_spec 𝓤 𝓛 𝓜 𝓡 wired T A L LA g d dropping allocating allocator glue glued =

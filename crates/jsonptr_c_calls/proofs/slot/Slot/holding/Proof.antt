@@ -21,12 +21,12 @@ use Rattle.std.specs.contracts.alloc.Global as global
 use Rattle.std.proofs.alloc.Global.TheLaws as global_laws
 use Rattle.std.specs.contracts.impls.GlobalAllocator.TheImpl.{ghosts}
 use Rattle.std.proofs.raw_atomic.Walks.{proved_at, leaves}
-use Rattle.jsonptr_c_handle.proofs.ApartSteps.{pair, pair_fits, apart_opens}
-use Rattle.jsonptr_c_handle.proofs.ApartSteps.{Row as Apart}
-use Rattle.jsonptr_c_handle.proofs.SlotSteps.{single, Json, slot_made}
-use Rattle.jsonptr_c_handle.specs.contracts.slot.Slot.holding as f
-use Rattle.jsonptr_c_handle.proofs.slot.Slot.holding.Statement.{statement}
-use Rattle.jsonptr_c_handle.proofs.slot.Slot.holding.Code as code
+use Rattle.jsonptr_c_calls.proofs.ApartSteps.{pair, pair_fits, apart_opens}
+use Rattle.jsonptr_c_calls.proofs.ApartSteps.{Row as Apart}
+use Rattle.jsonptr_c_calls.proofs.SlotSteps.{single, Json, slot_made}
+use Rattle.jsonptr_c_calls.specs.contracts.slot.Slot.holding as f
+use Rattle.jsonptr_c_calls.proofs.slot.Slot.holding.Statement.{statement}
+use Rattle.jsonptr_c_calls.proofs.slot.Slot.holding.Code as code
 
 abbrev Parameter : RattleType
 Parameter = Apart Json global.the_row global_laws.the_row_laws ghosts

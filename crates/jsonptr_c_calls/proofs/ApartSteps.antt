@@ -28,7 +28,7 @@ use Rattle.core.proofs.alloc.Calls.{Al, handle_tells}
 use Rattle.core.proofs.cell.Inside.{Good}
 use Rattle.std.specs.Box.Ownership.{box_owns}
 use Rattle.std_alloc.proofs.ResultValues.{and_tt}
-use Rattle.jsonptr_c_handle.specs.contracts.apart.Apart as apart
+use Rattle.jsonptr_c_calls.specs.contracts.apart.Apart as apart
 
 abbrev pub pair : Val → Val → Val
 pair first second = vstruct (vcons first (vcons second vnil))

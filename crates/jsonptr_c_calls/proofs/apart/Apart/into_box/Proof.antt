@@ -31,13 +31,13 @@ use Rattle.core.proofs.cell.Inside.{Good}
 use Rattle.std_alloc.proofs.BoxSteps.Form as boxed
 use Rattle.std_alloc.proofs.BoxSteps.Steps.{box_out, box_in}
 use Rattle.std.proofs.raw_atomic.Walks.{proved_at, leaves}
-use Rattle.jsonptr_c_handle.proofs.ApartSteps.{pair, pair_fits, apart_opens}
-use Rattle.jsonptr_c_handle.proofs.ApartSteps.{Row as Apart}
+use Rattle.jsonptr_c_calls.proofs.ApartSteps.{pair, pair_fits, apart_opens}
+use Rattle.jsonptr_c_calls.proofs.ApartSteps.{Row as Apart}
 use Rattle.std_alloc.specs.contracts.boxed.Box.from_raw as callee
 use Rattle.std_alloc.proofs.boxed.Box.from_raw.Met.{met}
-use Rattle.jsonptr_c_handle.specs.contracts.apart.Apart.into_box as f
-use Rattle.jsonptr_c_handle.proofs.apart.Apart.into_box.Statement.{statement}
-use Rattle.jsonptr_c_handle.proofs.apart.Apart.into_box.Code as code
+use Rattle.jsonptr_c_calls.specs.contracts.apart.Apart.into_box as f
+use Rattle.jsonptr_c_calls.proofs.apart.Apart.into_box.Statement.{statement}
+use Rattle.jsonptr_c_calls.proofs.apart.Apart.into_box.Code as code
 
 pub into_box_spec : {M : Type 1} → statement M
 into_box_spec 𝓤 𝓛 𝓜 𝓡 wired T A L LA g d dropping allocating allocator glue glued =

@@ -23,8 +23,8 @@ use Rattle.std.specs.declared.alloc.Global.{Global}
 use Rattle.std.specs.contracts.impls.GlobalAllocator.TheImpl.{ghosts}
 use Rattle.serde_json.specs.declared.value.Value.{Value}
 use Rattle.serde_json.specs.contracts.value.Value as json
-use Rattle.jsonptr_c_handle.specs.Slot.{slot_owns}
-use Rattle.jsonptr_c_handle.specs.contracts.slot.Slot as slot
+use Rattle.jsonptr_c_calls.specs.Slot.{slot_owns}
+use Rattle.jsonptr_c_calls.specs.contracts.slot.Slot as slot
 
 abbrev pub single : Val → Val
 single field = vstruct (vcons field vnil)

@@ -24,12 +24,12 @@ use Rattle.std.proofs.alloc.Global.TheLaws as global_laws
 use Rattle.std.specs.contracts.impls.GlobalAllocator.TheImpl.{ghosts}
 use Rattle.std.proofs.raw_atomic.Walks.{proved_at, leaves}
 use Rattle.serde_json.specs.declared.value.Value.{Value}
-use Rattle.jsonptr_c_handle.proofs.ApartSteps.{pair, pair_fits, apart_made}
-use Rattle.jsonptr_c_handle.proofs.SlotSteps.{single, Json, slot_opens}
-use Rattle.jsonptr_c_handle.proofs.SlotSteps.{Row as Slot}
-use Rattle.jsonptr_c_handle.specs.contracts.slot.Slot.into_apart as f
-use Rattle.jsonptr_c_handle.proofs.slot.Slot.into_apart.Statement.{statement}
-use Rattle.jsonptr_c_handle.proofs.slot.Slot.into_apart.Code as code
+use Rattle.jsonptr_c_calls.proofs.ApartSteps.{pair, pair_fits, apart_made}
+use Rattle.jsonptr_c_calls.proofs.SlotSteps.{single, Json, slot_opens}
+use Rattle.jsonptr_c_calls.proofs.SlotSteps.{Row as Slot}
+use Rattle.jsonptr_c_calls.specs.contracts.slot.Slot.into_apart as f
+use Rattle.jsonptr_c_calls.proofs.slot.Slot.into_apart.Statement.{statement}
+use Rattle.jsonptr_c_calls.proofs.slot.Slot.into_apart.Code as code
 
 abbrev Heap : RattleType
 Heap = global.the_row

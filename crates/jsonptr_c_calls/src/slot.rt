@@ -3,7 +3,7 @@ ghost use Rattle.std.specs.Prelude.{◌≡◌, Option, Some, None};
 ghost use Rattle.std.specs.Coded.{coded_option};
 ghost use Rattle.serde_json.specs.declared.value.Value.{Value as JsonValue};
 ghost use Rattle.serde_json.specs.contracts.value.Value.{the_row};
-ghost use Rattle.jsonptr_c_handle.specs.Slot.{slot_owns};
+ghost use Rattle.jsonptr_c_calls.specs.Slot.{slot_owns};
 
 use crate::apart::Apart;
 use serde_json::Value;

@@ -16,10 +16,10 @@ use denote.Triple.Entry.{alive}
 use denote.Triple.Walked.{Stays, walk_of}
 use Rattle.std.specs.Prelude.{None}
 use Rattle.std.proofs.raw_atomic.Walks.{proved_at, leaves}
-use Rattle.jsonptr_c_handle.proofs.SlotSteps.{single, null_word, no_value, slot_made_vacant}
-use Rattle.jsonptr_c_handle.specs.contracts.slot.Slot.vacant as f
-use Rattle.jsonptr_c_handle.proofs.slot.Slot.vacant.Statement.{statement}
-use Rattle.jsonptr_c_handle.proofs.slot.Slot.vacant.Code as code
+use Rattle.jsonptr_c_calls.proofs.SlotSteps.{single, null_word, no_value, slot_made_vacant}
+use Rattle.jsonptr_c_calls.specs.contracts.slot.Slot.vacant as f
+use Rattle.jsonptr_c_calls.proofs.slot.Slot.vacant.Statement.{statement}
+use Rattle.jsonptr_c_calls.proofs.slot.Slot.vacant.Code as code
 
 abbrev nothing_kept : Stays f.ended.signature.params f.ended.kept
 nothing_kept = tt

@@ -1,2 +1,0 @@
-pub mod ApartSteps
-pub mod SlotSteps
