@@ -3,7 +3,9 @@
 
 - Each link leads to a file, and to a heading of it.
 - Each table has a head, and rows of as many cells.
-- Each crate, file, law, module and clause that a document names exists.
+- Each crate, file, law, module and clause that a document names exists. The changelog alone has old names of crates, and a
+  row for each.
+- Each extra in a command `./vendor` exists.
 - README, `docs/ARCHITECTURE.md` and `crates/jsonptr/CALLING.md` list each crate, and each module of `jsonptr_uses`.
 - The version is one everywhere.
 - Each word of a public contract is in `docs/SPECIFICATION.md`.
@@ -15,6 +17,7 @@ import re
 import sys
 
 import api
+import crate_names
 import repository
 import specification
 
@@ -115,6 +118,21 @@ def check_tables(name, text):
         expect(is_headed, name, f"a table without a head: {rows[0][:60]}")
         for row in rows:
             expect(len(cells(row)) == len(cells(rows[0])), name, f"a row of {len(cells(row))} cells: {row[:60]}")
+
+
+def check_extras(name, text):
+    """Checks that what a document copies by `./vendor` can be copied."""
+    for words in re.findall(r"\./vendor [\w./]+((?: [\w-]+)+)(?=[`\n])", text):
+        for word in words.split():
+            expect(word in {*crate_names.EXTRAS, "--example", "--update"}, name, f"./vendor has no {word}")
+
+
+def check_renamed():
+    """Checks that the changelog has a row for each crate that was renamed."""
+    rows = [cells(row) for table in tables(read("CHANGELOG.md")) for row in table]
+    for old, new in crate_names.RENAMED.items():
+        is_there = any(row[0] == f"`{old}`" and CODE.findall(row[1]) == new for row in rows)
+        expect(is_there, "CHANGELOG.md", f"no row says that {old} is {crate_names.listed(new)}")
 
 
 def check_crates(name, text, known):
@@ -305,9 +323,10 @@ def main():
     known = list(repository.listed())
     for name in documents():
         text = read(name)
-        for check in (check_links, check_tables, check_files, check_laws, check_clauses):
+        for check in (check_links, check_tables, check_files, check_laws, check_clauses, check_extras):
             check(name, text)
-        check_crates(name, text, known)
+        check_crates(name, text, [*known, *crate_names.RENAMED] if name == "CHANGELOG.md" else known)
+    check_renamed()
     check_lists(known)
     check_version()
     check_specification()
