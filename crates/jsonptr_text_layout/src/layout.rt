@@ -1,12 +1,12 @@
 //! The white space around what an edit brings or removes, so that a text keeps its layout. These
 //! are hints: no contract says that they are right.
 
-use crate::flat::{
+use crate::place::Place;
+use crate::spread::{Lines, OneLine, on_line, spread};
+use crate::style::{
     Flat, find_outside_strings, indent_of, is_filled, is_own_line, line_before, margin_of,
     newline_of, row_above, unit_of,
 };
-use crate::place::Place;
-use crate::spread::{Lines, OneLine, on_line, spread};
 use crate::value_text::ValueText;
 use jsonptr_text_piece::child::{Child, trimmed_end};
 use jsonptr_text_piece::piece::Piece;

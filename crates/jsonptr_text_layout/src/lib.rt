@@ -8,8 +8,8 @@
 //! - [`value_text`]: the text of a value on one line, and over lines.
 #![tactic(auto)]
 
-mod flat;
 pub mod layout;
 pub mod place;
 mod spread;
+mod style;
 pub mod value_text;

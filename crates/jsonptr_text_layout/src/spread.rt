@@ -1,6 +1,6 @@
 //! Laying out a value: over lines, or on one line.
 
-use crate::flat::{Flat, indent_of};
+use crate::style::{Flat, indent_of};
 use crate::value_text::ValueText;
 use std::alloc::{AllocError, Global};
 

@@ -3,7 +3,7 @@
 use crate::align::{Step, align};
 use crate::gaps::{Gaps, before, indent_after};
 use crate::given::{Given, GivenValue};
-use crate::style::Style;
+use crate::spaces::Style;
 use crate::tree::{NodeKind, TreeNode};
 use jsonptr_text_piece::span::slice;
 use std::alloc::{AllocError, Global};

@@ -33,7 +33,7 @@ mod hash;
 mod lay;
 mod relaid;
 mod relayouts;
-mod style;
+mod spaces;
 mod tree;
 
 pub use jsonptr_text_piece::buffers::Buffers;

@@ -9,7 +9,7 @@ ghost use Rattle.jsonptr_text_relayout.specs.Relaying.{text_of_relaid, ReadsAs, 
 use crate::given::{GivenValue, given_values};
 use crate::lay::{At, Layer};
 use crate::relaid::{Relaid, RelayoutError, RelayoutTextError};
-use crate::style::Style;
+use crate::spaces::Style;
 use crate::tree::{TreeNode, read_tree};
 use jsonptr_patch_diff::are_same;
 use jsonptr_text_piece::buffers::Buffers;
