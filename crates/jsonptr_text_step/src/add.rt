@@ -6,7 +6,7 @@ ghost use Rattle.jsonptr_text_step.specs.Steps.{AddsInText, AddsAtByText};
 ghost use Rattle.jsonptr_text_step.specs.PrivateOperating.{AreMemberChoices};
 ghost use Rattle.jsonptr_text_step.specs.PrivateReaching.{AddsByText};
 
-use crate::change_at::{ValueChangeAt, put_value};
+use crate::change_at::{ValueChangeAt, change_value_at};
 use crate::front::child_selectors;
 use crate::insert::{add_member, append, insert};
 use crate::plan::{Made, Plan, ReplacedValue};
@@ -113,7 +113,7 @@ fn replace_member(
         path: &path,
         piece: made.piece.as_str(),
     };
-    let Some(text) = put_value(buffers, &cut, at)? else {
+    let Some(text) = change_value_at(buffers, &cut, at)? else {
         return Ok(None);
     };
     let plan = Plan::Replaced(ReplacedValue {

@@ -31,7 +31,7 @@ pub struct ChangeAtPointer<'a> {
 /// # Errors
 ///
 /// [`AllocError`] if an allocation fails.
-fn edit_by(
+fn make_change(
     buffers: &mut Buffers,
     cut: &Cut<'_>,
     at: ChangeAt<'_>,
@@ -68,7 +68,7 @@ pub struct ValueChangeAt<'a> {
 /// # Errors
 ///
 /// [`AllocError`] if an allocation fails.
-pub fn put_value(
+pub fn change_value_at(
     buffers: &mut Buffers,
     cut: &Cut<'_>,
     at: ValueChangeAt<'_>,
@@ -109,7 +109,7 @@ pub fn put_value(
 /// # Errors
 ///
 /// [`AllocError`] if an allocation fails.
-pub fn is_edited_at(
+pub fn is_changed_at(
     buffers: &mut Buffers,
     old: &str,
     new: &str,
@@ -133,7 +133,7 @@ pub fn is_edited_at(
 /// # Errors
 ///
 /// [`AllocError`] if an allocation fails.
-pub fn edit_at(
+pub fn make_change_at(
     buffers: &mut Buffers,
     cut: &Cut<'_>,
     at: &ChangeAtPointer<'_>,
@@ -151,5 +151,5 @@ pub fn edit_at(
         positions: at.positions,
         change: at.change,
     };
-    edit_by(buffers, cut, by, piece)
+    make_change(buffers, cut, by, piece)
 }

@@ -8,7 +8,7 @@ ghost use Rattle.jsonptr_text_check.specs.Editing.{Makes};
 ghost use Rattle.jsonptr_text_step.specs.PrivateOperating.{ElementInserted};
 ghost use Rattle.jsonptr_text_step.specs.PrivateReaching.{ReachedInText, MemberAdded, ElementAppended, AddsPieceByText, AddsByText};
 
-use crate::change_at::{ChangeAtPointer, edit_at};
+use crate::change_at::{ChangeAtPointer, make_change_at};
 use crate::front::{ChildAt, Front, is_child_after};
 use crate::plan::{AddedChild, Made, Plan};
 use crate::site::Site;
@@ -229,7 +229,7 @@ fn put_child(
         positions: &site.place.positions,
         change,
     };
-    let Some(new) = edit_at(buffers, &cut, &at, added)? else {
+    let Some(new) = make_change_at(buffers, &cut, &at, added)? else {
         return Ok(None);
     };
     let text = Front {

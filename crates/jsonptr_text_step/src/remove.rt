@@ -6,7 +6,7 @@ ghost use Rattle.jsonptr_text_check.specs.Child.{IsReadAs};
 ghost use Rattle.jsonptr_text_step.specs.Bytes.{CutsBytes, CutsInTurn, CutsMembers, CutsElement, CutsChild};
 ghost use Rattle.jsonptr_text_step.specs.EditInText.{DeletesInText};
 
-use crate::change_at::{ChangeAtPointer, is_edited_at};
+use crate::change_at::{ChangeAtPointer, is_changed_at};
 use crate::front::{ChildAt, Front, is_child_after};
 use crate::plan::{Made, Plan, RemovedChild};
 use crate::site::Site;
@@ -103,7 +103,7 @@ fn cut_members(
         positions: above,
         change: &change,
     };
-    if is_edited_at(buffers, new.as_str(), site.text, &at)? {
+    if is_changed_at(buffers, new.as_str(), site.text, &at)? {
         let plan = Plan::Removed(RemovedChild {
             container: site.place.container,
             children: first.children,
@@ -157,7 +157,7 @@ fn cut_element(
         positions: above,
         change: &change,
     };
-    if is_edited_at(buffers, new.text.as_str(), site.text, &at)? {
+    if is_changed_at(buffers, new.text.as_str(), site.text, &at)? {
         let plan = Plan::Removed(RemovedChild {
             container: site.place.container,
             children: new.children,

@@ -13,7 +13,7 @@ ghost use Rattle.jsonptr_text_step.specs.PrivateReaching.{ReachedInText};
 ghost use Rattle.jsonptr_text_step.specs.PrivateRenaming.{IsNamedAnew};
 ghost use Rattle.jsonptr_text_step.specs.Renaming.{RenamesInText, RenamesName, RenamesBytes, IsRenameError};
 
-use crate::change_at::{ChangeAtPointer, edit_at};
+use crate::change_at::{ChangeAtPointer, make_change_at};
 use crate::front::child_selectors;
 use crate::plan::{Made, Plan, RenamedMember};
 use crate::rename_document::{kept, rename_and_print};
@@ -235,7 +235,7 @@ fn replace_name(
         positions: above,
         change: &change,
     };
-    let Some(text) = edit_at(buffers, cut, &at, name.as_str())? else {
+    let Some(text) = make_change_at(buffers, cut, &at, name.as_str())? else {
         return Ok(None);
     };
     let from = cut.before.len();

@@ -8,7 +8,7 @@ ghost use Rattle.jsonptr_text_step.specs.Steps.{ReplacesByText};
 ghost use Rattle.jsonptr_text_step.specs.Bytes.{IsScalar};
 ghost use Rattle.jsonptr_text_step.specs.PrivateReaching.{ReachedInText, ReplacesCut, IsValueEdit, Becomes, ScalarBecomes, ReplacesScalarByText};
 
-use crate::change_at::{ValueChangeAt, put_value};
+use crate::change_at::{ValueChangeAt, change_value_at};
 use crate::plan::{Made, Plan, ReplacedValue};
 use crate::site::Site;
 use jsonptr::Pointer;
@@ -171,7 +171,7 @@ fn replace_cut(
         path: &selectors,
         piece: made.piece.as_str(),
     };
-    let Some(text) = put_value(buffers, cut, at)? else {
+    let Some(text) = change_value_at(buffers, cut, at)? else {
         return Ok(None);
     };
     let plan = Plan::Replaced(ReplacedValue {

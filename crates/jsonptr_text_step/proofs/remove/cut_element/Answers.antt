@@ -20,7 +20,7 @@ returns-then-branch-clause-deleted c =
     let value = string_bytes c.in_ok-from_str.field-0 in
     let w = choice_of c.in_ok-selector_of.field-0 in
     deletes_element old new value front c.args.token.now w c.in_ok-selector_of.ensures
-    (subst (λ (t : Text). ReachedInText t old front (λ at at2. (e : Data) × (read value ≡ Some e) × AddsElement w e at at2)) c.as_str.ensures.value (c.in_ok-is_edited_at.ensures c.if-branch.true))
+    (subst (λ (t : Text). ReachedInText t old front (λ at at2. (e : Data) × (read value ≡ Some e) × AddsElement w e at at2)) c.as_str.ensures.value (c.in_ok-is_changed_at.ensures c.if-branch.true))
 
 pub returns-then-branch-clause-bytes : goal.returns-then-branch-clause-bytes
 returns-then-branch-clause-bytes c =
@@ -31,5 +31,5 @@ returns-then-branch-clause-bytes c =
     let w = choice_of c.in_ok-selector_of.field-0 in
     cuts_element old new value front c.args.token.now w c.in_ok-selector_of.ensures
     (subst (λ (v : Text). ReachedInText new old front (λ at at2. (e : Data) × (read v ≡ Some e) × AddsElement w e at at2)) c.in_ok-from_str.ensures.ok
-    (subst (λ (t : Text). ReachedInText t old front (λ at at2. (e : Data) × (read (string_bytes c.in_ok-from_str.field-0) ≡ Some e) × AddsElement w e at at2)) c.as_str.ensures.value (c.in_ok-is_edited_at.ensures c.if-branch.true)))
+    (subst (λ (t : Text). ReachedInText t old front (λ at at2. (e : Data) × (read (string_bytes c.in_ok-from_str.field-0) ≡ Some e) × AddsElement w e at at2)) c.as_str.ensures.value (c.in_ok-is_changed_at.ensures c.if-branch.true)))
     (subst (λ (o : Option Shorter). IfSome o (λ s. (v : Data) × (read value ≡ Some v) × CutsBytes old (string_bytes s.text) (front ++ c.args.token.now ∷ []) None v)) c.in-Some-2.is c.in_ok-new.ensures)

@@ -6,7 +6,7 @@ use Rattle.jsonptr_text_check.specs.Editing.{IsEdited, Makes}
 use Rattle.jsonptr_text_step.specs.PrivateReaching.{ReachedInText}
 use Rattle.jsonptr_text_step.proofs.EditLemmas.{if_true}
 use Rattle.jsonptr_text_step.proofs.ReachingLemmas.{reached_in_text}
-use Rattle.jsonptr_text_step.proofs.change_at.is_edited_at.Goals as goal
+use Rattle.jsonptr_text_step.proofs.change_at.is_changed_at.Goals as goal
 
 pub returns : goal.returns
 returns c =

@@ -1,7 +1,7 @@
 use Rattle.std.proofs.Common.{◌≡◌, ◌++◌, List, ℕ, string_bytes, ◌∙◌, subst}
 use Rattle.jsonptr_text_search.specs.Search.{choices}
 use Rattle.jsonptr_text_check.specs.Leading.{BeginsAt}
-use Rattle.jsonptr_text_step.proofs.change_at.put_value.Goals as goal
+use Rattle.jsonptr_text_step.proofs.change_at.change_value_at.Goals as goal
 
 pub returns-then-branch-clause-placed : goal.returns-then-branch-clause-placed
 returns-then-branch-clause-placed c =
