@@ -29,7 +29,7 @@ struct Around<'t> {
 
 /// What goes from a text with comments.
 #[derive(Clone, Copy, Debug)]
-pub struct Removal {
+pub struct CutChild {
     /// A comma that goes, too.
     pub comma: Comma,
     /// The child, and what goes with it.
@@ -40,7 +40,7 @@ pub struct Removal {
 }
 
 /// Returns what is removed with the child at the position, or `None` if that is not clear.
-pub fn removal(texts: Texts<'_>, container: Container<'_>, position: usize) -> Option<Removal> {
+pub fn removal(texts: Texts<'_>, container: Container<'_>, position: usize) -> Option<CutChild> {
     let children = container.children;
     let child = children.get(position)?.span;
     let from = end_before(container, position);
@@ -71,20 +71,20 @@ impl<'t> Around<'t> {
     }
 
     /// Returns the removal of the span, without a comma elsewhere.
-    fn alone(&self, span: Span) -> Option<Removal> {
+    fn alone(&self, span: Span) -> Option<CutChild> {
         Some(self.whole(Comma::Same, span))
     }
 
     /// Returns the removal of the whole span, and of the comma. The comments on the line of the child, after it,
     /// go with it.
-    fn whole(&self, comma: Comma, span: Span) -> Removal {
+    fn whole(&self, comma: Comma, span: Span) -> CutChild {
         let end = self.after.tail.min(span.to);
         let kept = Span { from: end, to: end };
-        Removal { comma, span, kept }
+        CutChild { comma, span, kept }
     }
 
     /// Returns what is removed.
-    fn removal(&self) -> Option<Removal> {
+    fn removal(&self) -> Option<CutChild> {
         if self.is_first && self.is_last && self.owns_all() {
             return self.alone(self.all);
         }
@@ -120,7 +120,7 @@ impl<'t> Around<'t> {
     /// Returns the removal of a child whose comma is on a later line. The comma before the child goes
     /// instead. If there is none, what is between the line of the child and its comma stays, if that has
     /// comments.
-    fn before_later_comma(&self, comma: usize) -> Option<Removal> {
+    fn before_later_comma(&self, comma: usize) -> Option<CutChild> {
         if self.is_first {
             return self.first_before(comma);
         }
@@ -134,7 +134,7 @@ impl<'t> Around<'t> {
     }
 
     /// Returns the removal of the first child, and of the comma at the offset, which is on a later line.
-    fn first_before(&self, comma: usize) -> Option<Removal> {
+    fn first_before(&self, comma: usize) -> Option<CutChild> {
         let span = Span {
             from: self.child.from,
             to: self.next_after(comma),
@@ -152,7 +152,7 @@ impl<'t> Around<'t> {
             to: span.to,
         };
         let comma = Comma::Same;
-        Some(Removal { comma, span, kept })
+        Some(CutChild { comma, span, kept })
     }
 
     /// Returns the offset of the comma before the child, if only white space is between them.
@@ -212,7 +212,7 @@ impl<'t> Around<'t> {
     }
 
     /// Returns the removal of the line of the child, which begins at the offset.
-    fn line(&self, start: usize) -> Option<Removal> {
+    fn line(&self, start: usize) -> Option<CutChild> {
         let span = self.line_from(start);
         if !self.is_last || self.is_first || self.after.comma.is_some() {
             return self.alone(span);
@@ -221,7 +221,7 @@ impl<'t> Around<'t> {
     }
 
     /// Returns the removal of the last child, which shares a line with others.
-    fn last(&self) -> Option<Removal> {
+    fn last(&self) -> Option<CutChild> {
         let to = self.after.tail;
         let from = self.space_start();
         if self.is_first || self.after.comma.is_some() {
@@ -236,7 +236,7 @@ impl<'t> Around<'t> {
     }
 
     /// Returns the removal of a child that is not the last one, and shares a line with others.
-    fn not_last(&self) -> Option<Removal> {
+    fn not_last(&self) -> Option<CutChild> {
         let comma = self.after.comma?;
         if self.after.ends_line {
             return self.alone(self.line_from(self.space_start()));
