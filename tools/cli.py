@@ -1,8 +1,10 @@
 """Runs the built program `jptr` as a process: its commands, errors, streams and files, and the examples of its guide.
 
 It needs Linux, bash, a C compiler, and a user `nobody` if it runs as root. It also checks that the man page, the
-completions and the guide name each command and flag that `--help` shows.
+completions and the guide name each command and flag that `--help` shows, and what zsh, fish, mandoc and man say of them,
+as far as these are there.
 """
+import functools
 import json
 import os
 import re
@@ -11,6 +13,7 @@ import stat
 import subprocess
 import sys
 import tempfile
+import tomllib
 from concurrent.futures import ThreadPoolExecutor
 from random import Random
 from typing import NamedTuple
@@ -22,11 +25,13 @@ from harness import TOOLS, TOP, CheckFailed, build_shim, program, run_with_shim
 PROGRAM = program("jptr")
 SECONDS = 60
 GUIDE = f"{TOP}/docs/COMMAND_LINE.md"
-INSTALLED = {
-    "man page": f"{TOP}/crates/jptr/install/jptr.1",
-    "completions for bash": f"{TOP}/crates/jptr/install/jptr.bash",
-    "completions for zsh": f"{TOP}/crates/jptr/install/_jptr",
-}
+# What `jptr --generate` prints, with the word after it.
+GENERATED = {"man page": "man", "completions for bash": "bash", "completions for zsh": "zsh", "completions for fish": "fish"}
+# The commands that look for faults in it, and print nothing if there are none.
+LINTERS = [
+    ("man", ["mandoc", "-T", "lint", "-W", "warning"]), ("man", ["man", "--warnings", "-E", "UTF-8", "-Tutf8", "-Z", "-l"]),
+    ("bash", ["bash", "-n"]), ("zsh", ["zsh", "-n"]), ("fish", ["fish", "-n"]),
+]
 CONSOLE = re.compile(r"^```console\n(.*?)^```$", re.MULTILINE | re.DOTALL)
 MARK = "-- next --"
 LINES = 100_000
@@ -104,6 +109,8 @@ def cases():
     yield from locations()
     yield from nodes()
     yield from several()
+    yield from rows()
+    yield from on_toml()
     yield from unexpanded()
     yield from operations()
     yield from commented()
@@ -142,8 +149,7 @@ def operations():
     yield Case(("rename", "", "x"), TEXT, "", "jptr: POINTER: the root has no key\n", 2)
     yield Case(("rename", "/c", "b"), TEXT, "", f"jptr: standard input: {NOT_FOUND}\n/c\n ^ not found in value\n", 1)
     yield Case(("move", "/a~1b", "/a~1b/0"), TEXT, "", "jptr: POINTER: FROM is a proper prefix of it\n", 2)
-    yield Case(("from-paths", "--fill"), "/a\t[]\n/a/2\t3\n", '{"a":[null,null,3]}\n')
-    yield Case(("from-paths", "--fill"), "/a\t{}\n/a/2\t3\n", '{"a":{"2":3}}\n')
+    yield Case(("from-paths",), "/a\t{}\n/a/2\t3\n", '{"a":{"2":3}}\n')
     options = '{\n  "compilerOptions": {\n    "strict": true,\n    "lib": ["a", "b"]\n  }\n}\n'
     yield Case(("rename", "/compilerOptions", "options"), options, options.replace("compilerOptions", "options"))
     yield Case(("rename", "/a/b", "c"), '{\n  "a": {\n    "b": 1\n  }\n}\n', '{\n  "a": {\n    "c": 1\n  }\n}\n')
@@ -320,8 +326,6 @@ def nodes():
         yield Case((*words, "/c"), TEXT, "", f"jptr: standard input: {NOT_FOUND}\n/c\n ^ not found in value\n", 1)
     for words in [("keys", ""), ("length", ""), ("type", ""), ("test", ""), ("test", "", "1")]:
         yield Case(words, "{", "", f"jptr: standard input: {OPEN}", 3)
-        file = ("x.toml",) if words != ("test", "") else ("1", "x.toml")
-        yield Case((*words, *file), "", "", f"jptr: {words[0]}: takes JSON, not TOML\n", 2)
     yield Case(("test", "/b", "x"), TEXT, "", "jptr: JSON: text is not JSON: expected a value, found `x` at line 1 column 1; a string needs quotes, or --string\nx\n^\n", 3)
     yield Case(("test", "/b", "@-"), TEXT, "", "jptr: JSON: standard input cannot be the value and the document\n", 2)
     yield Case(("test", "/b", "@/dev/null"), TEXT, "", f"jptr: /dev/null: {EMPTY}", 3)
@@ -371,7 +375,7 @@ def escaped():
     for c, shown in MOVING:
         caret = "^" * (1 + len(shown))
         yield Case(("paths",), f'{{{json.dumps(f"é{c}")}: 1e-400}}', "", f"jptr: standard input: the number at /é{shown} loses digits: use --lossy\n", 3)
-        gap = f"line 1: no element is before 1 in an array at /{shown}: --fill adds null, and lines of paths --all tell an object"
+        gap = f"line 1: no element is before 1 in an array at /{shown}; lines of paths --all tell an object"
         yield Case(("from-paths",), f"/{c}/1\t2\n", "", f"jptr: standard input: {gap}\n", 6)
         yield Case(("get", f"/é{c}"), "{}", "", f"jptr: standard input: {NOT_FOUND}\n/é{shown}\n {caret} not found in value\n", 1)
         yield Case(("get", "/a", f"f{c}.json"), "", "", f"jptr: f{shown}.json: No such file or directory (os error 2)\n", 5)
@@ -412,9 +416,121 @@ def several():
     yield Case(("set", "/a", "@-", "/b", "@-", "/dev/null"), "1", "", "jptr: JSON: standard input cannot be two values\n", 2)
     yield Case(("set", "/a", "1", "/b", "@-"), "1", "", "jptr: JSON: standard input cannot be the value and the document\n", 2)
     yield Case(("get", "/a", "b", "c"), "", "", NO_SLASH.format(LOOKS, "b"), 2)
-    for words in [("get", "/a", "/b", "-"), ("delete", "/a", "/b", "-"), ("set", "/a", "1", "/b", "2")]:
+    for words in [("delete", "/a", "/b", "-"), ("set", "/a", "1", "/b", "2")]:
         yield Case((*words, "--lines"), "{}", "", "jptr: --lines: takes one pointer\n", 2)
-        yield Case((*words, "--toml"), "", "", "jptr: POINTER: a TOML document takes one pointer at a time\n", 2)
+    yield Case(("delete", "--if-present", "/c"), TEXT, TEXT)
+    yield Case(("delete", "--if-present", "/c", "/b", "/a~1b/9", "-"), TEXT, '{\n  "a/b": [1, 2]\n}\n')
+    yield Case(("delete", "--if-present", "/b/x", "--compact"), TEXT, '{"b":1.0,"a/b":[1,2]}\n')
+    yield Case(("delete", "--if-present", "--comments", "/c", "/a", "-"), '{\n  "a": 1, // one\n  "b": 2 // two\n}\n', '{\n  "b": 2 // two\n}\n')
+    yield Case(("delete", "--if-present", "/c"), "{", "", f"jptr: standard input: {OPEN}", 3)
+
+
+def rows():
+    """The values of several pointers in each line. Only the last line is at fault: `check_memory` knows of no report before it."""
+    text = '{"id": 1, "n": "x"}\n\n{"id": 3, "n": [1, 2]}\n{"id": 2}'
+    fault = f"jptr: standard input:4: {NOT_FOUND}\n"
+    words = ("get", "--lines", "/id", "/n", "-")
+    yield Case(words, text, '1\t"x"\n3\t[1, 2]\n', fault, 7)
+    yield Case((*words, "--compact"), text, '1\t"x"\n3\t[1,2]\n', fault, 7)
+    yield Case((*words, "--raw"), text, "1\tx\n3\t[1, 2]\n", fault, 7)
+    yield Case((*words, "--object"), text, '{"/id": 1, "/n": "x"}\n{"/id": 3, "/n": [1, 2]}\n', fault, 7)
+    yield Case((*words, "--object", "--compact"), text, '{"/id":1,"/n":"x"}\n{"/id":3,"/n":[1,2]}\n', fault, 7)
+    yield Case((*words, "--strict"), '{"id": 1, "n": "x"}\n{"id": 2}\n{"id": 3, "n": 4}\n', '1\t"x"\n', f"jptr: standard input:2: {NOT_FOUND}\n", 7)
+    damaged = "jptr: standard input:5: text is not JSON at column 1\n"
+    yield Case(words, "\n\n\n\n[", "", damaged, 7)
+    yield Case((*words, "--default", "null"), f"{text}\n[", '1\t"x"\n3\t[1, 2]\n2\tnull\nnull\tnull\n', damaged, 7)
+    yield Case((*words, "--default", "{}", "--object"), f"{text}\n[", '{"/id": 1, "/n": "x"}\n{"/id": 3, "/n": [1, 2]}\n{"/id": 2, "/n": {}}\n{"/id": {}, "/n": {}}\n', damaged, 7)
+    yield Case(("get", "--lines", "--object", "/id"), '{"id": 1}\n', '{"/id": 1}\n')
+    yield Case(("get", "--lines", "--sort-keys", "/a", "/b", "-"), '{"a": {"d": 1.10, "c": 1}, "b": 1e5}\n', '{"c":1,"d":1.1}\t100000.0\n')
+    yield Case(("get", "--lines", "--sort-keys", "/a", "/b", "-"), '{"a": 1, "b": 1e-400}\n', "", "jptr: standard input:1: the number loses digits: use --lossy\n", 7)
+    yield Case(("get", "--lines", "--raw", "/a", "/b", "-"), '{"a": "x\\ty", "b": 1}\n', "", "jptr: standard input:1: a value contains a tab, which is between the values\n", 7)
+    yield Case(("get", "--lines", "/a", "/b", "-"), '{"a": "x\\ty", "b": 1}\n', '"x\\ty"\t1\n')
+    yield Case(("get", "--lines", "/a", "b", "-"), "{}\n", "", NO_SLASH.format(LOOKS, "b"), 2)
+
+
+# A document of TOML with values of each kind. What it is as JSON is known from Python's `tomllib`.
+TOML_TEXT = """title = "x" # first
+n = 1_000
+hex = 0xFF
+pi = 3.14
+big = 1e100
+when = 1979-05-27T07:32:00Z
+ok = true
+none = []
+
+[t]
+s = 'a\\b'
+many = \"\"\"
+one
+two\"\"\"
+l = [1, "two", {k = []}, {}]
+"k/~\\n" = -0.0
+
+[[t.a]]
+b = 1
+
+[[t.a]]
+"""
+
+
+def toml_as_json():
+    """Returns the values of `TOML_TEXT`, with dates as the strings that it has."""
+    values = tomllib.loads(TOML_TEXT)
+    values["when"] = "1979-05-27T07:32:00Z"
+    return values
+
+
+def on_toml():
+    """Commands on TOML that read JSON of it, several pointers, and a key that is renamed."""
+    values = toml_as_json()
+    flat = {"separators": (",", ":"), "sort_keys": True, "ensure_ascii": False}
+    whole = json.dumps(values, **flat)
+    yield Case(("get", "--toml", "--json", ""), TOML_TEXT, f"{whole}\n")
+    yield Case(("get", "--toml", "--json", "--pretty", "/t/l"), TOML_TEXT, json.dumps(values["t"]["l"], indent=2) + "\n")
+    for pointer in ["/title", "/n", "/hex", "/pi", "/when", "/ok", "/none", "/t/s", "/t/many", "/t/l/2", "/t/a"]:
+        value = values
+        for token in pointer.split("/")[1:]:
+            value = value[int(token) if isinstance(value, list) else token]
+        yield Case(("get", "--toml", "--json", pointer), TOML_TEXT, json.dumps(value, **flat) + "\n")
+    yield Case(("get", "--toml", "--json", "--raw", "/t/s"), TOML_TEXT, "a\\b\n")
+    yield Case(("get", "--toml", "--json", "/n", "/t/l/0", "-"), TOML_TEXT, "1000\n1\n")
+    yield Case(("get", "--toml", "--json", "--object", "/n", "/when", "-"), TOML_TEXT, '{"/n": 1000, "/when": "1979-05-27T07:32:00Z"}\n')
+    yield Case(("get", "--toml", "--json", "--default", "null", "/z"), TOML_TEXT, "null\n")
+    yield Case(("get", "--json", "/a"), '{"a": 1.10}', "1.10\n")
+    for number in ["nan", "-inf"]:
+        yield Case(("get", "--toml", "--json", "/a"), f"a = 1\n[b]\nc = {number}\n", "", "jptr: standard input: the float at /b/c is no number of JSON\n", 3)
+    yield Case(("keys", "--toml", "/t"), TOML_TEXT, "".join(f"{json.dumps(key)}\n" for key in sorted(values["t"])))
+    yield Case(("keys", "--toml", "--raw", "/t/a/0"), TOML_TEXT, "b\n")
+    for pointer, kind, length in [("", "object", 9), ("/t/l", "array", 4), ("/title", "string", 1), ("/when", "string", 20)]:
+        yield Case(("type", "--toml", pointer), TOML_TEXT, f"{kind}\n")
+        yield Case(("length", "--toml", pointer), TOML_TEXT, f"{length}\n")
+    for pointer, kind in [("/n", "number"), ("/pi", "number"), ("/ok", "boolean")]:
+        yield Case(("type", "--toml", pointer), TOML_TEXT, f"{kind}\n")
+    yield Case(("length", "--toml", "/n"), TOML_TEXT, "", "jptr: standard input: a number has no length\n", 1)
+    for value, status in [("1000", 0), ("1e3", 0), ("1001", 1), ('"1000"', 1)]:
+        yield Case(("test", "--toml", "/n", value), TOML_TEXT, "", "", status)
+    yield Case(("test", "--toml", "/t/a", '[{"b": 1}, {}]'), TOML_TEXT, "")
+    yield Case(("test", "--toml", "/z"), TOML_TEXT, "", "", 1)
+    yield Case(("get", "--toml", "/n", "/t/s", "-"), TOML_TEXT, "1000\n'a\\b'\n")
+    yield Case(("get", "--toml", "--raw", "--default", "2", "/z", "/t/s", "-"), TOML_TEXT, "2\na\\b\n")
+    yield Case(("get", "--toml", "/n", "/z", "-"), TOML_TEXT, "", f"jptr: standard input: {NOT_FOUND}\n/z\n ^ not found in value\n", 1)
+    yield Case(("set", "--toml", "/n", "1", "/hex", "0x10"), TOML_TEXT, TOML_TEXT.replace("1_000", "1").replace("0xFF", "0x10"))
+    yield Case(("set", "--toml", "/n", "[]", "/n/-", "2"), TOML_TEXT, TOML_TEXT.replace("1_000", "[2]"))
+    yield Case(("set", "--toml", "--string", "/n", "@-", "/hex", "@-"), TOML_TEXT, TOML_TEXT.replace("1_000", '"@-"').replace("0xFF", '"@-"'))
+    yield Case(("set", "--toml", "/n", "1", "/none/5", "1"), TOML_TEXT, "",
+               "jptr: standard input: assign failed: json pointer token at offset 5 is out of bounds\n/none/5\n      ^ 5 is out of bounds (len: 0)\n", 6)
+    yield Case(("set", "--toml", "--no-expand", "/n", "[]", "/n/-", "2"), TOML_TEXT, TOML_TEXT.replace("1_000", "[2]"))
+    yield Case(("delete", "--toml", "/n", "/hex", "-"), TOML_TEXT, TOML_TEXT.replace("n = 1_000\nhex = 0xFF\n", ""))
+    yield Case(("delete", "--toml", "/n", "/z", "-"), TOML_TEXT, "", "jptr: standard input: delete failed: json pointer does not resolve\n", 1)
+    yield Case(("delete", "--toml", "--if-present", "/z", "/n", "-"), TOML_TEXT, TOML_TEXT.replace("n = 1_000\n", ""))
+    yield Case(("rename", "--toml", "/n", "m"), TOML_TEXT, TOML_TEXT.replace("n = 1_000", "m = 1_000"))
+    yield Case(("rename", "--toml", "/t/a", "x y"), TOML_TEXT, TOML_TEXT.replace("[[t.a]]", '[[t."x y"]]'))
+    yield Case(("rename", "--toml", "/n", "hex"), TOML_TEXT, "", "jptr: standard input: there is a member with this key\n", 6)
+    yield Case(("rename", "--toml", "/t/l/0", "x"), TOML_TEXT, "", "jptr: standard input: not a key of a table\n", 6)
+    yield Case(("rename", "--toml", "/z", "x"), TOML_TEXT, "", f"jptr: standard input: {NOT_FOUND}\n/z\n ^ not found in value\n", 1)
+    yield Case(("get", "--toml", "--object", "/n"), TOML_TEXT, "", "jptr: --object: is an object of JSON: use --json, too\n", 2)
+    yield Case(("rename", "--toml", "--pretty", "/n", "m"), TOML_TEXT, "", "jptr: --pretty: is for JSON, and the document is TOML\n", 2)
+    yield Case(("get", "--toml", "--json", "--lines", "/n"), TOML_TEXT, "", "jptr: --lines: a line is no TOML document\n", 2)
 
 
 def unexpanded():
@@ -489,6 +605,13 @@ def formats():
     yield Case(("get", "--indent", "16", "--default", "[1]", "/b"), "{}", f"[\n{' ' * 16}1\n]\n")
     yield Case(("format",), "{", "", f"jptr: standard input: {OPEN}", 3)
     yield Case(("format", "/dev/null.toml"), "", "", "jptr: format: takes JSON, not TOML\n", 2)
+    unformatted = "jptr: standard input: not laid out as format prints it\n"
+    for words, text in [((), '{\n  "a": 1\n}\n'), (("--compact",), '{"a":1}\n'), (("--indent", "tab"), '{\n\t"a": 1\n}\n'), (("--sort-keys",), '{\n  "a": 1,\n  "b": 2\n}\n')]:
+        yield Case(("format", "--check", *words), text, "")
+        yield Case(("format", "--check", *words), text[:-1], "", unformatted, 1)
+        yield Case(("format", "--check", *words), "\ufeff" + text, "")
+    yield Case(("format", "--check", "--sort-keys"), '{\n  "b": 2,\n  "a": 1\n}\n', "", unformatted, 1)
+    yield Case(("format", "--check"), "{", "", f"jptr: standard input: {OPEN}", 3)
 
 
 def digits():
@@ -534,7 +657,7 @@ def on_paths():
     yield Case(("from-paths",), "/a\tx\n", "", "jptr: standard input: line 1: not JSON after the tab\n", 3)
     yield Case(("from-paths",), "/x" * 127 + "\t1\n", '{"x":' * 127 + "1" + "}" * 127 + "\n")
     yield Case(("from-paths",), "/x" * 128 + "\t1\n", "", "jptr: standard input: line 1: document would nest deeper than 127\n", 6)
-    yield from gaps()
+    yield from guesses()
     yield Case(("paths",), "{", "", f"jptr: standard input: {OPEN}", 3)
     table = "[a]\nat = 1979-05-27\nb = [1.0, 'x\"y']\n[c]\ns = \"1\\n2\"\n"
     yield Case(("paths", "--toml"), table, "/a/at\t1979-05-27\n/a/b/0\t1.0\n/a/b/1\t'x\"y'\n/c/s\t\"1\\n2\"\n")
@@ -572,32 +695,23 @@ SYNTAX = [
     ("nul", "text is not JSON: expected a value, found `n`", 1, 1),
     ("[" * 128 + "]" * 128, "JSON, but nested deeper than 127", 1, 128),
 ]
-def gaps():
-    """Lines of arrays whose elements are missing."""
-    gap = "jptr: standard input: line {}: no element is before {} in an array{}: --fill adds null, and lines of paths --all tell an object\n".format
-    cake = '/menu/items/1/name\t"cake"\n'
-    yield Case(("from-paths",), cake, "", gap(1, 1, " at /menu/items"), 6)
-    yield Case(("from-paths", "--fill"), cake, '{"menu":{"items":[null,{"name":"cake"}]}}\n')
-    yield Case(("from-paths",), "/2\t1\n", "", gap(1, 2, ""), 6)
-    yield Case(("from-paths", "--fill"), "/2\t1", "[null,null,1]\n")
-    yield Case(("from-paths", "--fill"), "", "null\n")
-    yield Case(("from-paths", "--fill"), "/a/1\t1\n/a/4/2\t2\n/b\t3\n", '{"a":[null,1,null,null,[null,null,2]],"b":3}\n')
-    yield Case(("from-paths",), "/b\t0\n/a/0/1\t1\n", "", gap(2, 1, " at /a/0"), 6)
-    missing = "jptr: standard input: line {}: index {} is missing; with --fill, missing elements are null\n".format
+def guesses():
+    """Lines that guess the type of a container, and lines of arrays whose elements are missing."""
+    guess = "jptr: standard input: line {}: no element is before {} in an array{}; lines of paths --all tell an object\n".format
+    yield Case(("from-paths",), '/menu/items/1/name\t"cake"\n', "", guess(1, 1, " at /menu/items"), 6)
+    yield Case(("from-paths",), "/2\t1\n", "", guess(1, 2, ""), 6)
+    yield Case(("from-paths",), "/b\t0\n/a/0/1\t1\n", "", guess(2, 1, " at /a/0"), 6)
+    yield Case(("from-paths",), "/a/x\t1\n/b/c/1\t1\n/b/d\t1\n", "", guess(2, 1, " at /b/c"), 6)
+    missing = "jptr: standard input: line {}: assign failed: json pointer token at offset {} is out of bounds\n".format
     yield Case(("from-paths",), "\t[]\n/1\t1\n", "", missing(2, 0), 6)
-    yield Case(("from-paths",), "/0\t1\n/2\t1\n", "", missing(2, 1), 6)
-    yield Case(("from-paths",), "/a/0\t1\n/a/2\t2\n", "", missing(2, "1 of /a"), 6)
-    yield Case(("from-paths",), "/a/0\t1\n/a/1/0\t2\n/a/1/3/b\t2\n", "", missing(3, "1 of /a/1"), 6)
-    yield Case(("from-paths", "--fill"), "/a/0\t1\n/a/2\t2\n", '{"a":[1,null,2]}\n')
-    # No `null` is added for an element that is not after the line before it.
-    message = "assign failed: json pointer token at offset 2 is out of bounds"
-    for flags in [(), ("--fill",)]:
-        yield Case(("from-paths", *flags), "/a/0\t1\n/b\t1\n/a/2\t2\n", "", f"jptr: standard input: line 3: {message}\n", 6)
+    yield Case(("from-paths",), "/0\t1\n/2\t1\n", "", missing(2, 0), 6)
+    yield Case(("from-paths",), "/a/0\t1\n/a/2\t2\n", "", missing(2, 2), 6)
+    yield Case(("from-paths",), "/a/0\t1\n/a/1/0\t2\n/a/1/3/b\t2\n", "", missing(3, 4), 6)
+    yield Case(("from-paths",), "/a/0\t1\n/b\t1\n/a/2\t2\n", "", missing(3, 2), 6)
     yield Case(("from-paths",), "/a/x\t1\n/a/1\t2\n/b\t3\n/a/2\t4\n", '{"a":{"1":2,"2":4,"x":1},"b":3}\n')
     yield Case(("from-paths",), '/a\t{"b":{}}\n/c\t1\n/a/b/1\t2\n', '{"a":{"b":{"1":2}},"c":1}\n')
     yield Case(("from-paths",), "/a/01\t1\n", '{"a":{"01":1}}\n')
-    yield Case(("from-paths", "--fill"), "/a/2\t1\n/b\tx\n", "", "jptr: standard input: line 2: not JSON after the tab\n", 3)
-    yield Case(("from-paths", "--fill"), "/a/1048577\t1\n", "", "jptr: standard input: line 1: more than 1048576 elements are missing\n", 6)
+    yield Case(("from-paths",), "", "null\n")
 
 
 def failing():
@@ -640,9 +754,13 @@ def usage():
     yield ("set", "/a", "1", "-i")
     yield ("set", "/a", "1", "-i", "-")
     yield ("set", "/a", "1", "/b", "2", "-i")
-    yield ("get", "/a", "/b", "-", "--lines")
-    yield ("get", "--object", "--lines", "/a")
     yield ("get", "--object", "--raw", "/a")
+    yield ("get", "--object", "--toml", "/a")
+    yield ("get", "--lines", "--raw", "--default", '"a\\tb"', "/a", "/b", "-")
+    yield ("delete", "--if-present", "--lines", "/a")
+    yield ("set", "--if-present", "/a", "1")
+    yield ("format", "--check", "--lines")
+    yield ("format", "--check", "-i", "f")
     yield ("set", "/a", "1", "f", "-i", "--lines")
     yield ("set", "/a", "1", "--lines", "--reformat")
     yield ("get", "--lines", "--raw", "--default", '"a\\nb"', "/a")
@@ -668,6 +786,7 @@ def usage():
     yield ("paths", "/a", "f")
     yield ("paths", "--pretty")
     yield ("from-paths", "--all")
+    yield ("from-paths", "--fill")
     yield ("patch", "x", "y", "--check", "-i")
     yield ("patch", "x", "y", "--check", "--lines")
     yield ("diff", "x", "y", "--text", "--pretty")
@@ -675,6 +794,10 @@ def usage():
     yield ("patch", "x", "y", "--inverse", "u", "--check")
     yield ("patch", "x", "y", "--inverse", "u", "--lines")
     yield ("patch", "x", "y", "--inverse")
+    yield ("--generate",)
+    yield ("--generate", "html")
+    yield ("--generate", "man", "get", "/a")
+    yield ("get", "/a", "--generate", "man")
 
 
 def run(words, text="", **options):
@@ -746,6 +869,7 @@ STATUSES = [
             (("move",), ("/c",)), (("copy",), ("/c",)), (("get", "/a"), ("-",)), (("get", "--comments"), ()), (("delete", "--comments"), ())]]
         + [(("get", "--toml", "/b"), "a = 1\n"), (("delete", "--toml", "/b"), "a = 1\n"), (("insert", "/b/c", "1"), "{}")]),
     (1, "A value has no keys or no length", [(("keys", "/a"), '{"a": 1}'), (("length", "/a"), '{"a": 1}')]),
+    (1, "A document is not laid out as format prints it", [(("format", "--check"), '{"a": 1}'), (("format", "--check", "--compact"), "{ }")]),
     (1, "No value is at a position", [(("locate", "--at", "1:9"), "[1, 2]"), (("locate", "--at", "9:1"), "[1, 2]")]),
     (2, "The command line is wrong", [(("get",), "1"), (("get", "--unknown", ""), "1"), (("rename", "", "a"), "1"), (("move", "/a", "/a/b"), '{"a": {}}')]),
     (2, "An argument is not a pointer or a token", [
@@ -759,6 +883,7 @@ STATUSES = [
     (3, "A document is not a patch", [(("patch", "app.json"), "{}"), (("patch", "-", "app.json"), '[{"op": "remove", "path": "a"}]')]),
     (3, "A line is not a pointer, a tab and JSON", [(("from-paths",), "/a 1"), (("from-paths",), "a\t1"), (("from-paths",), "/a\tx")]),
     (3, "A number loses digits", [(("paths",), "1e-400"), (("format", "--sort-keys"), "1e-400"), (("set", "--toml", "/a", "1e-400"), "")]),
+    (3, "A float of TOML is no number of JSON", [(("get", "--toml", "--json", "/a"), "a = nan"), (("type", "--toml", "/a"), "a = inf")]),
     (4, "Out of memory", []),
     (5, "A file could not be read or written", [(("get", "/a", "none.json"), ""), (("set", "/a", "1", "none.json", "-i"), "")]),
     (6, "An edit cannot be made: no value can be put at the pointer, or the text or its comments do not allow it", [
@@ -807,7 +932,7 @@ def check_statuses(folder, shim):
 
 def statuses_of_man_page():
     """Returns the sentences of each exit status of the man page."""
-    rows = read(INSTALLED["man page"]).partition(".Sh EXIT STATUS")[2].partition(".El")[0]
+    rows = generated("man").partition(".Sh EXIT STATUS")[2].partition(".El")[0]
     table = {}
     for status, text in re.findall(r"^\.It (\d)\n((?:(?!\.It ).*\n)*)", rows, re.MULTILINE):
         text = re.sub(r"^\.Fl -(.*?)( [.,:;])?$", r"--\1\2", text, flags=re.MULTILINE)
@@ -828,6 +953,15 @@ def check_help_examples(folder):
             raise CheckFailed(f"{lines[0]}: status {given.returncode}, {given.stderr!r}")
         write(f"{folder}/app.json", EXAMPLE_FILES["app.json"])
     return len(commands()) + 1
+
+
+@functools.cache
+def generated(kind):
+    """Returns what `jptr --generate` prints."""
+    given = run(("--generate", kind))
+    if given.returncode or given.stderr:
+        raise CheckFailed(f"--generate {kind}: status {given.returncode}, {given.stderr!r}")
+    return given.stdout.decode()
 
 
 def flags(command):
@@ -854,16 +988,14 @@ def check_documents():
 
     The synopsis of the man page and the completions for bash give each command its flags, and no others.
     """
-    for name, path in [*INSTALLED.items(), ("guide", GUIDE)]:
-        with open(path, encoding="utf-8") as file:
-            text = file.read()
+    texts = {name: generated(kind) for name, kind in GENERATED.items()}
+    for name, text in [*texts.items(), ("guide", read(GUIDE))]:
         if name in ("man page", "completions for bash"):
             given = flags_by_command(name, text)
             wrong = [it for it in commands() if given.get(it, set()) != set(flags(it))]
             if wrong:
                 raise CheckFailed(f"the {name} has other flags than `--help` for {wrong}")
-        if path.endswith(".1"):
-            text = re.sub(r"Fl -(?=[a-z])", "--", text)
+        text = re.sub(r"Fl -(?=[a-z])| -l (?=[a-z])", " --", text)
         for command in commands():
             missing = [word for word in [command, *flags(command)] if word not in text]
             if missing:
@@ -877,20 +1009,28 @@ COMPLETIONS = [
     ("set /a --st", "--string --strict"), ("set /a 1 app", "app.json"), ("delete --indent t", "tab"), ("keys app", ""),
     ("keys /a app", "app.json"), ("test /a app", ""), ("test /a 1 app", "app.json"), ("patch app", "app.json"),
     ("patch --inverse app", "app.json"), ("format --in", "--indent --in-place"), ("tokens app", ""), ("escape app", ""),
-    ("locate app", ""), ("locate /a app", "app.json"), ("locate --at 1:1 app", "app.json"),
+    ("locate app", ""), ("locate /a app", "app.json"), ("locate --at 1:1 app", "app.json"), ("--generate f", "fish"), ("set /a 1 app --color ne", "never"),
 ]
 
 
 def check_completions(folder):
-    """Checks what bash offers for a word, and returns the number of completions."""
+    """Checks what is generated for faults, and what bash offers for a word. Returns the number of checks."""
     write(f"{folder}/app.json", "{}")
+    for kind in GENERATED.values():
+        write(f"{folder}/{kind}", generated(kind))
+    found = [(kind, words) for kind, words in LINTERS if shutil.which(words[0])]
+    for kind, words in found:
+        given = subprocess.run([*words, f"{folder}/{kind}"], stdout=subprocess.PIPE, stderr=subprocess.PIPE, text=True, timeout=SECONDS)
+        said = given.stderr if words[0] == "man" else given.stdout + given.stderr
+        if given.returncode or said:
+            raise CheckFailed(f"{words[0]} on `jptr --generate {kind}`: status {given.returncode}, {said[:500]!r}")
     script = 'source "$1"; shift; COMP_WORDS=("$@"); COMP_CWORD=$(($# - 1)); _jptr; echo "${COMPREPLY[*]}"'
     for line, wanted in COMPLETIONS:
-        words = ["bash", "-c", script, "", INSTALLED["completions for bash"], "jptr", *line.split(" ")]
+        words = ["bash", "-c", script, "", f"{folder}/bash", "jptr", *line.split(" ")]
         given = subprocess.run(words, cwd=folder, capture_output=True, text=True, timeout=SECONDS)
         if given.stdout != f"{wanted}\n" or given.stderr:
             raise CheckFailed(f"bash completes jptr {line!r} by {given.stdout!r}, {given.stderr!r}, and not {wanted!r}")
-    return len(COMPLETIONS)
+    return len(COMPLETIONS) + len(found)
 
 
 def check_streams():

@@ -1,7 +1,7 @@
 //! The colours of JSON, and of lines that say what changes.
 
+use crate::invocation::ColorWhen;
 use crate::program_error::ProgramError;
-use clap::ArgMatches;
 use jptr_tasks::exit_status::USAGE;
 use std::alloc::{AllocError, Global};
 use std::env;
@@ -18,12 +18,12 @@ const GREEN: &str = "\u{1b}[32m";
 
 /// Returns whether what is printed has colours: by the flag `--color`, or on a terminal, unless the variable
 /// `NO_COLOR` is set and not empty.
-pub fn are_colored(rt: &HostRuntime, matches: &ArgMatches<'_>) -> Result<bool, ProgramError> {
-    match matches.get_str("color") {
-        Some("always") => Ok(true),
-        Some("never") => Ok(false),
-        None | Some("auto") => Ok(rt.stdout().is_terminal() && !is_turned_off(rt)),
-        Some(_word) => {
+pub fn are_colored(rt: &HostRuntime, color: Option<ColorWhen>) -> Result<bool, ProgramError> {
+    match color {
+        Some(ColorWhen::Always) => Ok(true),
+        Some(ColorWhen::Never) => Ok(false),
+        None | Some(ColorWhen::Terminal) => Ok(rt.stdout().is_terminal() && !is_turned_off(rt)),
+        Some(ColorWhen::Wrong) => {
             let message = "needs always, never or auto";
             Err(ProgramError::new(rt.alloc(), USAGE, "--color", message))
         }

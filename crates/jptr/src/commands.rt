@@ -1,29 +1,29 @@
 //! The commands.
 
+use crate::command_line::{Parsed, VERSION, commands, parse};
 use crate::difference::diff;
+use crate::document::{Document, FileFormat};
 use crate::help::help;
 use crate::input::is_standard;
 use crate::inverse::patch_with_inverse;
+use crate::invocation::{
+    Assigning, Command, Deleting, Finding, Formatted, Invocation, Options, Patching,
+};
 use crate::locate::locate;
 use crate::long_patch::patch_long;
-use crate::node::{print_node, test};
-use crate::operands::{
-    argument, check_json, check_last_word, is_toml_name, more_operands, pointer_of,
-};
-use crate::operation::{insert, rename, transfer};
+use crate::node::{Property, print_node, test};
+use crate::operands::{check_json, check_last_word, is_toml_name, pointer_of};
+use crate::operation::{copy_value, insert, move_value, rename};
 use crate::output::{print_line, print_text};
 use crate::patch_file::PatchFile;
 use crate::paths::{from_paths, paths};
 use crate::program_error::ProgramError;
 use crate::relayout::relayout;
-use crate::several::{delete_each, get_each, get_task, set_each, set_task};
-use crate::source::{FileFormat, Source};
-use crate::style::style_of;
-use crate::task::{on_source, run_styled, run_task};
-use crate::{arguments, toml_file};
-use clap::error::ErrorKind;
-use clap::{ArgMatches, Error};
-use jptr_tasks::exit_status::USAGE;
+use crate::several::{delete_each, get_each, get_rows, get_task, set_each, set_task};
+use crate::style::{OutputStyle, style_of};
+use crate::task::{checked, on_source, run_styled, run_task, source_result};
+use crate::{generate, toml_file};
+use jptr_tasks::exit_status::{NO, USAGE};
 use jptr_tasks::layout::{Layout, show};
 use jptr_tasks::long_patch::is_long;
 use jptr_tasks::task::Task;
@@ -36,14 +36,21 @@ use std::{env, io};
 
 /// Runs the program, and returns its exit status.
 pub fn run(rt: &HostRuntime) -> Result<u8, ProgramError> {
+    let alloc = rt.alloc();
     let words = words(rt)?;
-    let help = help(rt.alloc())?;
-    match arguments::command(rt.alloc(), help.as_str())?.try_get_matches_from(words.as_slice()) {
-        Ok(matches) => match matches.subcommand() {
-            Some((command, matches)) => run_command(rt, matches, command),
-            None => Ok(USAGE),
-        },
-        Err(error) => show_usage(rt, &error),
+    let commands = commands(alloc)?;
+    let help = help(alloc, commands.as_slice())?;
+    match parse(alloc, commands.as_slice(), help.as_str(), words.as_slice())? {
+        Parsed::Run(Invocation { command, options }) => run_command(rt, command, &options),
+        Parsed::Generate(kind) => {
+            let text = generate::text_of(alloc, kind, VERSION, commands.as_slice())?;
+            print_text(rt, text.as_str())?;
+            Ok(0)
+        }
+        Parsed::Print(text) => {
+            print_text(rt, text.as_str())?;
+            Ok(0)
+        }
     }
 }
 
@@ -59,103 +66,116 @@ fn words(rt: &HostRuntime) -> Result<Vec<String>, ProgramError> {
     }
 }
 
-/// Prints the help or the version, or returns what is wrong with the command line.
-fn show_usage(rt: &HostRuntime, error: &Error) -> Result<u8, ProgramError> {
-    if error.kind() == ErrorKind::OutOfMemory {
-        return Err(ProgramError::Memory);
-    }
-    let alloc = rt.alloc();
-    let text = error.to_string(alloc)?;
-    if error.use_stderr() {
-        return Err(ProgramError::of_usage(alloc, text.as_str()));
-    }
-    print_text(rt, text.as_str())?;
-    Ok(0)
-}
-
-/// Runs the command with this name.
+/// Runs the command.
 fn run_command(
     rt: &HostRuntime,
-    matches: &ArgMatches<'_>,
-    command: &str,
+    command: Command<'_>,
+    options: &Options<'_>,
 ) -> Result<u8, ProgramError> {
     match command {
-        "get" => get(rt, matches),
-        "set" => set(rt, matches),
-        "delete" => delete(rt, matches),
-        "insert" => insert(rt, matches),
-        "move" | "copy" => transfer(rt, matches, command),
-        "rename" => rename(rt, matches),
-        "keys" | "length" | "type" => print_node(rt, matches, command),
-        "test" => test(rt, matches),
-        "paths" => paths(rt, matches),
-        "from-paths" => from_paths(rt, matches),
-        "patch" => patch(rt, matches),
-        "format" => format(rt, matches),
-        "relayout" => relayout(rt, matches),
-        "locate" => locate(rt, matches),
-        "diff" => diff(rt, matches),
-        "tokens" => tokens(rt, matches),
-        "escape" => escape(rt, matches),
-        "unescape" => unescape(rt, matches),
-        _ => Ok(USAGE),
+        Command::Get(finding) => get(rt, options, &finding),
+        Command::Keys(pointer) => print_node(rt, options, pointer, Property::Keys),
+        Command::Length(pointer) => print_node(rt, options, pointer, Property::Length),
+        Command::TypeOf(pointer) => print_node(rt, options, pointer, Property::Type),
+        Command::Test(testing) => test(rt, options, testing),
+        Command::Locate(locating) => locate(rt, options, locating),
+        Command::Set(assigning) => set(rt, options, &assigning),
+        Command::Delete(deleting) => delete(rt, options, &deleting),
+        Command::Insert(assignment) => insert(rt, options, assignment),
+        Command::Move(transfer) => move_value(rt, options, transfer),
+        Command::Copy(transfer) => copy_value(rt, options, transfer),
+        Command::Rename(renaming) => rename(rt, options, renaming),
+        Command::Patch(patching) => patch(rt, options, patching),
+        Command::Diff(comparing) => diff(rt, options, comparing),
+        Command::Format(formatted) => format(rt, options, formatted),
+        Command::Relayout(new) => relayout(rt, options, new),
+        Command::Paths(which) => paths(rt, options, which),
+        Command::FromPaths => from_paths(rt, options),
+        Command::Tokens(pointer) => tokens(rt, pointer, options.layout.is_raw),
+        Command::Escape(text) => escape(rt, text),
+        Command::Unescape(token) => unescape(rt, token),
     }
 }
 
 /// Finds a value, or several.
-fn get(rt: &HostRuntime, matches: &ArgMatches<'_>) -> Result<u8, ProgramError> {
-    let alloc = rt.alloc();
-    check_last_word(rt, matches)?;
-    let more = more_operands(alloc, matches)?;
-    if !more.is_empty() || matches.get_flag("object") {
-        return get_each(rt, matches, more.as_slice());
+fn get(rt: &HostRuntime, options: &Options<'_>, finding: &Finding<'_>) -> Result<u8, ProgramError> {
+    let [first, more @ ..] = finding.pointers.as_slice() else {
+        return Ok(USAGE);
+    };
+    check_last_word(rt, options.file, *first)?;
+    let is_toml = options.format == FileFormat::Toml;
+    if is_toml && !finding.is_json {
+        return toml_file::get(rt, options, finding);
     }
-    let text = argument(matches, "POINTER");
-    let pointer = pointer_of(alloc, text)?;
-    if FileFormat::of(matches) == FileFormat::Toml {
-        return toml_file::get(rt, matches, pointer);
+    if is_toml || !more.is_empty() || finding.is_object {
+        return get_several(rt, options, finding);
     }
-    run_task(rt, matches, get_task(alloc, matches, text)?)
+    let task = get_task(rt.alloc(), *first, finding.default, options.is_lossy)?;
+    run_task(rt, options, task)
+}
+
+/// Finds values, of a document or of each line.
+fn get_several(
+    rt: &HostRuntime,
+    options: &Options<'_>,
+    finding: &Finding<'_>,
+) -> Result<u8, ProgramError> {
+    match options.lines {
+        Some(flags) if options.format != FileFormat::Toml => get_rows(rt, options, finding, flags),
+        _ => get_each(rt, options, finding),
+    }
 }
 
 /// Assigns a value, or several.
-fn set(rt: &HostRuntime, matches: &ArgMatches<'_>) -> Result<u8, ProgramError> {
-    let more = more_operands(rt.alloc(), matches)?;
-    let text = argument(matches, "POINTER");
-    if more.is_empty() && FileFormat::of(matches) == FileFormat::Toml {
-        return toml_file::set(rt, matches, pointer_of(rt.alloc(), text)?);
+fn set(
+    rt: &HostRuntime,
+    options: &Options<'_>,
+    assigning: &Assigning<'_>,
+) -> Result<u8, ProgramError> {
+    if options.format == FileFormat::Toml {
+        return toml_file::set(rt, options, assigning);
     }
-    if !more.is_empty() || matches.get_flag("no-expand") || matches.get_flag("create") {
-        return set_each(rt, matches, more.as_slice());
+    match assigning.assignments.as_slice() {
+        [only] if assigning.expands && !assigning.creates => {
+            let task = set_task(rt, options.file, *only)?;
+            run_task(rt, options, task)
+        }
+        _ => set_each(rt, options, assigning),
     }
-    let task = set_task(rt, matches, text, argument(matches, "JSON"))?;
-    run_task(rt, matches, task)
 }
 
 /// Deletes a value, or several.
-fn delete(rt: &HostRuntime, matches: &ArgMatches<'_>) -> Result<u8, ProgramError> {
-    check_last_word(rt, matches)?;
-    let more = more_operands(rt.alloc(), matches)?;
-    if !more.is_empty() {
-        return delete_each(rt, matches, more.as_slice());
+fn delete(
+    rt: &HostRuntime,
+    options: &Options<'_>,
+    deleting: &Deleting<'_>,
+) -> Result<u8, ProgramError> {
+    let [first, more @ ..] = deleting.pointers.as_slice() else {
+        return Ok(USAGE);
+    };
+    check_last_word(rt, options.file, *first)?;
+    if options.format == FileFormat::Toml {
+        return toml_file::delete(rt, options, deleting);
     }
-    let text = argument(matches, "POINTER");
-    let pointer = pointer_of(rt.alloc(), text)?;
-    if FileFormat::of(matches) == FileFormat::Toml {
-        return toml_file::delete(rt, matches, pointer);
+    if !more.is_empty() || deleting.skips_missing {
+        return delete_each(rt, options, deleting);
     }
-    run_task(rt, matches, Task::Edit(Edit::Delete(pointer)))
+    let pointer = pointer_of(rt.alloc(), *first)?;
+    run_task(rt, options, Task::Edit(Edit::Delete(pointer)))
 }
 
 /// Applies a patch document.
-fn patch(rt: &HostRuntime, matches: &ArgMatches<'_>) -> Result<u8, ProgramError> {
+fn patch(
+    rt: &HostRuntime,
+    options: &Options<'_>,
+    patching: Patching<'_>,
+) -> Result<u8, ProgramError> {
     let alloc = rt.alloc();
-    let name = argument(matches, "PATCHFILE");
-    if is_standard(Some(name)) && is_standard(matches.get_str("FILE")) {
+    if is_standard(Some(patching.patch)) && is_standard(options.file) {
         let message = "standard input cannot be the patch and the document";
         return Err(ProgramError::new(alloc, USAGE, "PATCHFILE", message));
     }
-    if is_toml_name(matches.get_str("FILE")) {
+    if is_toml_name(options.file) {
         return Err(ProgramError::new(
             alloc,
             USAGE,
@@ -163,34 +183,61 @@ fn patch(rt: &HostRuntime, matches: &ArgMatches<'_>) -> Result<u8, ProgramError>
             "takes JSON, not TOML: use set and delete",
         ));
     }
-    let patch = PatchFile::read(rt, name)?;
-    if let Some(undo) = matches.get_str("inverse") {
-        return patch_with_inverse(rt, matches, patch.into_raw(alloc)?, undo);
+    let patch = PatchFile::read(rt, patching.patch)?;
+    if let Some(undo) = patching.undo {
+        return patch_with_inverse(rt, options, patch.into_raw(alloc)?, undo);
     }
-    if is_long(&patch.patch.operations) && !matches.get_flag("lines") {
-        return patch_long(rt, matches, patch);
+    if is_long(&patch.patch.operations) && options.lines.is_none() {
+        return patch_long(rt, options, patch, patching.is_check);
     }
-    run_task(rt, matches, Task::Edit(Edit::Patch(patch.into_raw(alloc)?)))
+    let task = Task::Edit(Edit::Patch(patch.into_raw(alloc)?));
+    let style = style_of(alloc, options)?;
+    if patching.is_check {
+        return checked(alloc, &Document::open(rt, options)?, &task);
+    }
+    run_styled(rt, options, task, style)
 }
 
-/// Lays a document out anew.
-fn format(rt: &HostRuntime, matches: &ArgMatches<'_>) -> Result<u8, ProgramError> {
+/// Lays a document out anew, or says by the status whether it is laid out so.
+fn format(
+    rt: &HostRuntime,
+    options: &Options<'_>,
+    formatted: Formatted,
+) -> Result<u8, ProgramError> {
     let alloc = rt.alloc();
-    check_json(alloc, "format", matches.get_str("FILE"))?;
-    let mut style = style_of(alloc, matches)?;
-    style.layout = format_layout(matches, style.layout);
+    check_json(alloc, "format", options.file)?;
+    let mut style = style_of(alloc, options)?;
+    style.layout = format_layout(options, style.layout);
     let task = Task::Get(Pointer::root(), None);
-    if FileFormat::of(matches) == FileFormat::Commented && !matches.get_flag("lines") {
-        let source = Source::open(rt, matches)?;
-        source.check_bare(alloc)?;
-        return on_source(rt, &source, &task, style);
+    let is_compared = formatted == Formatted::Compared;
+    if !is_compared && (options.format != FileFormat::Commented || options.lines.is_some()) {
+        return run_styled(rt, options, task, style);
     }
-    run_styled(rt, matches, task, style)
+    let source = Document::open(rt, options)?;
+    source.check_bare(alloc)?;
+    if is_compared {
+        return compare_format(alloc, &source, &task, style);
+    }
+    on_source(rt, &source, &task, style)
+}
+
+/// Fails if the result of the task is another text than that of the document.
+fn compare_format(
+    alloc: Global,
+    source: &Document<'_>,
+    task: &Task<'_>,
+    style: OutputStyle,
+) -> Result<u8, ProgramError> {
+    if source.is_its_text(source_result(alloc, source, task, style)?.as_str()) {
+        return Ok(0);
+    }
+    let message = "not laid out as format prints it";
+    Err(ProgramError::new(alloc, NO, source.name, message))
 }
 
 /// Returns how a document is laid out anew: on lines, if no flag says otherwise.
-fn format_layout(matches: &ArgMatches<'_>, layout: Layout) -> Layout {
-    let is_flat = matches.get_flag("lines") || matches.get_flag("compact");
+fn format_layout(options: &Options<'_>, layout: Layout) -> Layout {
+    let is_flat = options.lines.is_some() || options.layout.is_compact;
     match layout {
         Layout::Kept => if is_flat {
             Layout::Compact
@@ -207,11 +254,11 @@ fn format_layout(matches: &ArgMatches<'_>, layout: Layout) -> Layout {
 }
 
 /// Prints the tokens of a pointer.
-fn tokens(rt: &HostRuntime, matches: &ArgMatches<'_>) -> Result<u8, ProgramError> {
+fn tokens(rt: &HostRuntime, pointer: &str, is_raw: bool) -> Result<u8, ProgramError> {
     let alloc = rt.alloc();
-    let pointer = pointer_of(alloc, argument(matches, "POINTER"))?;
+    let pointer = pointer_of(alloc, pointer)?;
     let texts = decoded_tokens(alloc, pointer)?;
-    if matches.get_flag("raw") {
+    if is_raw {
         print_text(rt, raw_lines(alloc, texts.as_slice())?.as_str())?;
         Ok(0)
     } else {
@@ -243,16 +290,14 @@ fn raw_lines(alloc: Global, texts: &[Value]) -> Result<String, AllocError> {
 }
 
 /// Prints a text as a token.
-fn escape(rt: &HostRuntime, matches: &ArgMatches<'_>) -> Result<u8, ProgramError> {
-    let alloc = rt.alloc();
-    let token = Token::new(alloc, CowStr::Borrowed(argument(matches, "TEXT")))?;
+fn escape(rt: &HostRuntime, text: &str) -> Result<u8, ProgramError> {
+    let token = Token::new(rt.alloc(), CowStr::Borrowed(text))?;
     print_line(rt, token.encoded())
 }
 
 /// Prints the text of a token.
-fn unescape(rt: &HostRuntime, matches: &ArgMatches<'_>) -> Result<u8, ProgramError> {
+fn unescape(rt: &HostRuntime, text: &str) -> Result<u8, ProgramError> {
     let alloc = rt.alloc();
-    let text = argument(matches, "TOKEN");
     match Token::from_encoded(CowStr::Borrowed(text)) {
         Ok(token) => {
             let decoded = token.decoded(alloc)?.into_owned(alloc)?;

@@ -2,38 +2,40 @@
 
 use crate::changes::changes_of;
 use crate::colors::{are_colored, colored};
-use crate::digits::is_lossy;
+use crate::document::{Document, FileFormat};
 use crate::exact_difference::check_difference;
-use crate::operands::{argument, check_json};
+use crate::invocation::{ColorWhen, Comparing, Options};
+use crate::operands::check_json;
 use crate::output::{print_line, print_text};
 use crate::program_error::ProgramError;
-use crate::source::{FileFormat, Source};
 use crate::style::layout_of;
-use clap::ArgMatches;
 use jptr_tasks::difference::difference_of;
 use jptr_tasks::exit_status::NO;
 use serde_json::Value;
 
 /// Prints the patch document that turns one document into another, or a line for each change.
-pub fn diff(rt: &HostRuntime, matches: &ArgMatches<'_>) -> Result<u8, ProgramError> {
+pub fn diff(
+    rt: &HostRuntime,
+    options: &Options<'_>,
+    comparing: Comparing<'_>,
+) -> Result<u8, ProgramError> {
     let alloc = rt.alloc();
-    for side in ["OLD", "NEW"] {
-        check_json(alloc, "diff", Some(argument(matches, side)))?;
-    }
-    let before = read_side(rt, matches, "OLD")?;
+    check_json(alloc, "diff", Some(comparing.old))?;
+    check_json(alloc, "diff", Some(comparing.new))?;
+    let before = read_side(rt, options, comparing.old)?;
     let old = before.value(alloc)?;
-    let after = read_side(rt, matches, "NEW")?;
+    let after = read_side(rt, options, comparing.new)?;
     let new = after.value(alloc)?;
-    let difference = match difference_of(alloc, &old, &new, layout_of(matches)) {
+    let difference = match difference_of(alloc, &old, &new, layout_of(options.layout)) {
         Ok(difference) => difference,
         Err(error) => return Err(after.error(alloc, "", error)),
     };
     let text = difference.text.as_str();
-    if !is_lossy(matches) {
+    if !options.is_lossy {
         check_difference(alloc, &before, &after, text)?;
     }
-    if matches.get_flag("text") {
-        print_changes(rt, matches, old, text)?;
+    if comparing.is_text {
+        print_changes(rt, options.color, old, text)?;
     } else {
         print_line(rt, text)?;
     }
@@ -43,11 +45,11 @@ pub fn diff(rt: &HostRuntime, matches: &ArgMatches<'_>) -> Result<u8, ProgramErr
 /// Prints a line for each change of the document by the patch with this text.
 fn print_changes(
     rt: &HostRuntime,
-    matches: &ArgMatches<'_>,
+    color: Option<ColorWhen>,
     document: Value,
     patch: &str,
 ) -> Result<(), ProgramError> {
-    let is_colored = are_colored(rt, matches)?;
+    let is_colored = are_colored(rt, color)?;
     let mut lines = changes_of(rt.alloc(), document, patch)?;
     if is_colored {
         lines = colored(rt.alloc(), lines.as_str())?;
@@ -58,9 +60,12 @@ fn print_changes(
 /// Reads one of the documents that are compared.
 fn read_side<'a>(
     rt: &HostRuntime,
-    matches: &ArgMatches<'a>,
-    side: &str,
-) -> Result<Source<'a>, ProgramError> {
-    let file = Some(argument(matches, side));
-    Source::read_as(rt, FileFormat::of_file(matches, file), file)
+    options: &Options<'_>,
+    file: &'a str,
+) -> Result<Document<'a>, ProgramError> {
+    Document::read_as(
+        rt,
+        FileFormat::of(options.format_flag, Some(file)),
+        Some(file),
+    )
 }

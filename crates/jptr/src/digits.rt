@@ -3,7 +3,6 @@
 use crate::program_error::ProgramError;
 use crate::shown::shown;
 use crate::style::OutputStyle;
-use clap::ArgMatches;
 use jptr_tasks::exit_status::BAD_INPUT;
 use jptr_tasks::layout::Layout;
 use jptr_tasks::reprint::DigitLoss;
@@ -15,11 +14,6 @@ use jsonptr_text_edit::{Edit, RawOperation};
 use simdutf8::basic::from_utf8;
 use std::alloc::{AllocError, Global};
 use thiserror::Error;
-
-/// Returns whether the flags allow that digits are lost.
-pub fn is_lossy(matches: &ArgMatches<'_>) -> bool {
-    matches.get_flag("lossy")
-}
 
 /// Fails if a number of the text with this name loses digits.
 pub fn check_text(alloc: Global, name: &str, text: &str) -> Result<(), ProgramError> {

@@ -3,9 +3,9 @@
 //! A number that loses digits is a string in the documents here, which has its decimal value. The patch is
 //! applied to the old one: where the result is not the new one, a number has lost digits.
 
+use crate::document::Document;
 use crate::program_error::ProgramError;
 use crate::shown::shown;
-use crate::source::Source;
 use jptr_tasks::exit_status::BAD_INPUT;
 use jptr_tasks::patch::operations_of;
 use jptr_tasks::paths::listed_text;
@@ -25,8 +25,8 @@ const MARK: char = '#';
 /// decimal number than that of the new one.
 pub fn check_difference(
     alloc: Global,
-    before: &Source<'_>,
-    after: &Source<'_>,
+    before: &Document<'_>,
+    after: &Document<'_>,
     patch: &str,
 ) -> Result<(), ProgramError> {
     let (old, new) = (before.text(alloc)?, after.text(alloc)?);

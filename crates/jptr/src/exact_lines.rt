@@ -1,6 +1,7 @@
-//! Running a task on each line of an input, so that no number loses digits.
+//! Running tasks on each line of an input, so that no number loses digits.
 
 use crate::digits::{LossError, is_checked, loss_of};
+use crate::rows::{Row, put_row};
 use crate::style::OutputStyle;
 use jptr_tasks::line::{Line, LineTask, put_fault, put_line};
 use jptr_tasks::lines::{Ended, run_lines};
@@ -20,19 +21,40 @@ pub struct ExactTask<'a> {
     pub style: OutputStyle,
 }
 
-/// Does the task on each line of the input, as [`run_lines`] does. A line is also at fault if a number of
+/// What is done with each line of an input.
+#[derive(Drop)]
+pub enum LineJob<'a> {
+    /// A task, whose result is a line.
+    One(ExactTask<'a>),
+    /// Tasks that find values, which are one line.
+    Several(Row<'a>),
+}
+
+impl LineJob<'_> {
+    /// Returns whether the run ends at the first line at fault.
+    fn is_strict(&self) -> bool {
+        match self {
+            LineJob::One(exact) => exact.run.is_strict,
+            LineJob::Several(row) => row.is_strict,
+        }
+    }
+}
+
+/// Does the job on each line of the input, as [`run_lines`] does. A line is also at fault if a number of
 /// its result would lose digits and may not.
 pub fn run_exact_lines<R: BufRead, W: Write, E: Write>(
     alloc: Global,
-    exact: &ExactTask<'_>,
+    job: &LineJob<'_>,
     input: &mut R,
     output: &mut W,
     errors: &mut E,
 ) -> Result<Ended, TaskError> {
-    if !is_checked(&exact.run.task, exact.style) {
-        return run_lines(alloc, &exact.run, input, output, errors);
+    if let LineJob::One(exact) = job {
+        if !is_checked(&exact.run.task, exact.style) {
+            return run_lines(alloc, &exact.run, input, output, errors);
+        }
     }
-    let outcome = read_lines(alloc, exact, input, output, errors);
+    let outcome = read_lines(alloc, job, input, output, errors);
     let first = output.flush();
     let second = errors.flush();
     let ended = outcome?;
@@ -42,10 +64,10 @@ pub fn run_exact_lines<R: BufRead, W: Write, E: Write>(
     Ok(ended)
 }
 
-/// Does the task on each line, and does not flush.
+/// Does the job on each line, and does not flush.
 fn read_lines<R: BufRead, W: Write, E: Write>(
     alloc: Global,
-    exact: &ExactTask<'_>,
+    job: &LineJob<'_>,
     input: &mut R,
     output: &mut W,
     errors: &mut E,
@@ -62,8 +84,8 @@ fn read_lines<R: BufRead, W: Write, E: Write>(
             number,
             bytes: &line,
         };
-        if !put_exact_line(&mut buffers, exact, read, output, errors)? {
-            if exact.run.is_strict {
+        if !put_job(&mut buffers, job, read, output, errors)? {
+            if job.is_strict() {
                 return Ok(Ended::Stopped);
             }
             ended = Ended::WithErrors;
@@ -75,8 +97,22 @@ fn read_lines<R: BufRead, W: Write, E: Write>(
     Err(TaskError::Read)
 }
 
+/// Writes the result of the job on the line, or reports the line. Returns whether it has a result.
+fn put_job<W: Write, E: Write>(
+    buffers: &mut Buffers,
+    job: &LineJob<'_>,
+    line: Line<'_>,
+    output: &mut W,
+    errors: &mut E,
+) -> Result<bool, TaskError> {
+    match job {
+        LineJob::One(exact) => put_exact_line(buffers, exact, line, output, errors),
+        LineJob::Several(row) => put_row(buffers, row, line, output, errors),
+    }
+}
+
 /// Writes the result of the line, or reports it. Returns whether the line has a result.
-fn put_exact_line<W: Write, E: Write>(
+pub fn put_exact_line<W: Write, E: Write>(
     buffers: &mut Buffers,
     exact: &ExactTask<'_>,
     line: Line<'_>,

@@ -1,8 +1,8 @@
 //! The flag `--no-expand`: no container is created on the way to a value, and no scalar replaced by one.
 
+use crate::document::Document;
 use crate::drawn::missing;
 use crate::program_error::ProgramError;
-use crate::source::Source;
 use crate::toml_file;
 use jptr_tasks::exit_status::NOT_MADE;
 use jptr_tasks::node::scalar_above;
@@ -50,17 +50,18 @@ pub fn check_expansion(
     }
 }
 
-/// Fails if an assignment at the pointer would create an array or a table in the TOML document, or
-/// replace a scalar by one.
+/// Fails if an assignment at the pointer would create an array or a table in this text of the TOML
+/// document, or replace a scalar by one.
 pub fn check_toml_expansion(
     alloc: Global,
-    source: &Source<'_>,
+    source: &Document<'_>,
+    text: &str,
     pointer: Pointer<'_>,
 ) -> Result<(), ProgramError> {
     let Some(above) = pointer.parent() else {
         return Ok(());
     };
-    match resolve_in_toml(alloc, source.text(alloc)?, above) {
+    match resolve_in_toml(alloc, text, above) {
         Ok(Value::Array(_)) => Ok(()),
         Ok(Value::Table(_)) => Ok(()),
         Ok(_) => Err(ProgramError::new(alloc, NOT_MADE, source.name, SCALAR)),

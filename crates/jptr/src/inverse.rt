@@ -1,13 +1,13 @@
 //! The flag `--inverse`: a patch, and a file with the patch that takes it back.
 
 use crate::digits::check_inverse;
+use crate::document::Document;
 use crate::input::{is_standard, name_of};
+use crate::invocation::Options;
 use crate::program_error::ProgramError;
-use crate::source::Source;
 use crate::style::{OutputStyle, style_of};
 use crate::task::source_result;
 use crate::written::Written;
-use clap::ArgMatches;
 use jptr_tasks::exit_status::USAGE;
 use jptr_tasks::inverse::inverse_of;
 use jptr_tasks::task::Task;
@@ -20,7 +20,7 @@ use std::os::unix::fs::MetadataExt;
 
 /// A patch of a document, and the name of the file for its inverse.
 #[derive(Drop)]
-struct Patching<'a> {
+struct Inverting<'a> {
     /// The patch.
     patch: PatchText,
     /// How the new document and the inverse are printed.
@@ -42,18 +42,18 @@ struct Texts {
 /// document is printed or changed. After an error the file is what it was before.
 pub fn patch_with_inverse(
     rt: &HostRuntime,
-    matches: &ArgMatches<'_>,
+    options: &Options<'_>,
     patch: PatchText,
     undo: &str,
 ) -> Result<u8, ProgramError> {
-    check_name(rt, undo, matches.get_str("FILE"))?;
-    let patching = Patching {
+    check_name(rt, undo, options.file)?;
+    let inverting = Inverting {
         patch,
-        style: style_of(rt.alloc(), matches)?,
+        style: style_of(rt.alloc(), options)?,
         undo,
     };
-    let source = Source::open(rt, matches)?;
-    let texts = texts_of(rt.alloc(), patching, &source)?;
+    let source = Document::open(rt, options)?;
+    let texts = texts_of(rt.alloc(), inverting, &source)?;
     let written = Written::write(rt, undo, texts.undo.as_str())?;
     let put = source.put(rt, texts.new.as_str());
     written.settle(rt, put)?.keep(rt);
@@ -83,12 +83,12 @@ fn is_same_file(rt: &HostRuntime, left: &str, right: &str) -> bool {
 /// Returns the texts of the new document and of the patch that takes the patch back.
 fn texts_of(
     alloc: Global,
-    patching: Patching<'_>,
-    source: &Source<'_>,
+    inverting: Inverting<'_>,
+    source: &Document<'_>,
 ) -> Result<Texts, ProgramError> {
-    let undo = undo_text(alloc, &patching, source)?;
-    let style = patching.style;
-    let task = Task::Edit(Edit::Patch(patching.patch));
+    let undo = undo_text(alloc, &inverting, source)?;
+    let style = inverting.style;
+    let task = Task::Edit(Edit::Patch(inverting.patch));
     let new = source_result(alloc, source, &task, style)?;
     Ok(Texts { new, undo })
 }
@@ -96,14 +96,19 @@ fn texts_of(
 /// Returns the text of the patch that takes the patch back, with a line break at its end.
 fn undo_text(
     alloc: Global,
-    patching: &Patching<'_>,
-    source: &Source<'_>,
+    inverting: &Inverting<'_>,
+    source: &Document<'_>,
 ) -> Result<String, ProgramError> {
     let text = source.text(alloc)?;
-    match inverse_of(alloc, text, &patching.patch.document, patching.style.layout) {
+    match inverse_of(
+        alloc,
+        text,
+        &inverting.patch.document,
+        inverting.style.layout,
+    ) {
         Ok(inverse) => {
-            if !patching.style.is_lossy {
-                let operations = patching.patch.operations.as_slice();
+            if !inverting.style.is_lossy {
+                let operations = inverting.patch.operations.as_slice();
                 check_inverse(alloc, source.name, text, operations)?;
             }
             let mut text = inverse.text;
@@ -112,10 +117,10 @@ fn undo_text(
         }
         Err(TaskError::PatchTooDeep) => Err(ProgramError::of_error(
             alloc,
-            patching.undo,
+            inverting.undo,
             "",
             TaskError::PatchTooDeep,
         )),
-        Err(error) => Err(source.patch_error(alloc, &patching.patch.document, error)),
+        Err(error) => Err(source.patch_error(alloc, &inverting.patch.document, error)),
     }
 }

@@ -1,12 +1,12 @@
 //! The command `locate`: where a value is in a file, and which value is at a position in it.
 
+use crate::document::{Document, FileFormat};
 use crate::input::{is_standard, name_of};
+use crate::invocation::{FormatFlag, Locating, Options};
 use crate::operands::{check_json, pointer_of};
 use crate::output::print_line;
 use crate::position::Position;
 use crate::program_error::ProgramError;
-use crate::source::{FileFormat, Source};
-use clap::ArgMatches;
 use jptr_tasks::exit_status::{NO, USAGE};
 use jptr_tasks::task_error::TaskError;
 use jsonptr::Pointer;
@@ -14,19 +14,22 @@ use jsonptr_text_edit::{Buffers, LocateError, PointerAt, pointer_at};
 use std::alloc::{AllocError, Global};
 
 /// Prints where the value is that the pointer resolves to, or the pointer of the value at a position.
-pub fn locate(rt: &HostRuntime, matches: &ArgMatches<'_>) -> Result<u8, ProgramError> {
+pub fn locate(
+    rt: &HostRuntime,
+    options: &Options<'_>,
+    locating: Locating<'_>,
+) -> Result<u8, ProgramError> {
     let alloc = rt.alloc();
-    let (first, file) = (matches.get_str("POINTER"), matches.get_str("FILE"));
-    match matches.get_str("at") {
+    match locating.position {
         Some(argument) => {
-            if file.is_some() {
+            if options.file.is_some() {
                 let message = "--at takes a file alone";
                 return Err(ProgramError::new(alloc, USAGE, "locate", message));
             }
-            print_pointer(rt, matches, first, argument)
+            print_pointer(rt, options.format_flag, locating.first, argument)
         }
-        None => match first {
-            Some(pointer) => print_position(rt, matches, file, pointer),
+        None => match locating.first {
+            Some(pointer) => print_position(rt, options.format_flag, options.file, pointer),
             None => {
                 let message = "needs a pointer, or --at LINE:COLUMN";
                 Err(ProgramError::new(alloc, USAGE, "locate", message))
@@ -38,14 +41,14 @@ pub fn locate(rt: &HostRuntime, matches: &ArgMatches<'_>) -> Result<u8, ProgramE
 /// Prints where the value is: the file, the line and the column.
 fn print_position(
     rt: &HostRuntime,
-    matches: &ArgMatches<'_>,
+    format: FormatFlag,
     file: Option<&str>,
     pointer: &str,
 ) -> Result<u8, ProgramError> {
     let alloc = rt.alloc();
     let pointer = pointer_of(alloc, pointer)?;
     check_json(alloc, "locate", file)?;
-    let source = Source::read_as(rt, FileFormat::of_file(matches, file), file)?;
+    let source = Document::read_as(rt, FileFormat::of(format, file), file)?;
     let mut buffers = Buffers::new(alloc);
     match jsonptr_text_edit::locate(&mut buffers, source.text(alloc)?, pointer) {
         Ok(located) => {
@@ -59,7 +62,7 @@ fn print_position(
 /// Prints the pointer of the innermost value at the position.
 fn print_pointer(
     rt: &HostRuntime,
-    matches: &ArgMatches<'_>,
+    format: FormatFlag,
     file: Option<&str>,
     argument: &str,
 ) -> Result<u8, ProgramError> {
@@ -68,7 +71,7 @@ fn print_pointer(
         return Err(ProgramError::new(alloc, USAGE, "--at", "is not LINE:COLUMN, both from 1"));
     };
     check_json(alloc, "locate", file)?;
-    let source = Source::read_as(rt, FileFormat::of_file(matches, file), file)?;
+    let source = Document::read_as(rt, FileFormat::of(format, file), file)?;
     let text = source.text(alloc)?;
     // No value is after the end, but the text is read.
     let offset = position.offset_in(text).unwrap_or(text.len());
@@ -83,7 +86,7 @@ fn print_pointer(
 /// Returns the error of a value that is not located.
 fn locate_error(
     alloc: Global,
-    source: &Source<'_>,
+    source: &Document<'_>,
     pointer: Pointer<'_>,
     error: LocateError,
 ) -> ProgramError {
@@ -91,7 +94,7 @@ fn locate_error(
 }
 
 /// Returns the error of a position that has no value.
-fn nothing_at(alloc: Global, source: &Source<'_>, argument: &str) -> ProgramError {
+fn nothing_at(alloc: Global, source: &Document<'_>, argument: &str) -> ProgramError {
     let message = format!(in alloc; "no value at {argument}");
     ProgramError::of_message(alloc, NO, source.name, message)
 }

@@ -1,11 +1,11 @@
 //! A patch of many operations: the new document in the layout of the text.
 
+use crate::document::Document;
+use crate::invocation::Options;
 use crate::patch_file::PatchFile;
 use crate::program_error::ProgramError;
-use crate::source::Source;
 use crate::style::{OutputStyle, indented, style_of};
 use crate::task::{checked, on_source};
-use clap::ArgMatches;
 use jptr_tasks::layout::Layout;
 use jptr_tasks::long_patch::patch_in_layout;
 use jptr_tasks::task::Task;
@@ -23,13 +23,13 @@ use std::alloc::{AllocError, Global};
 /// the old one, the operations are applied in the text, one by one.
 pub fn patch_long(
     rt: &HostRuntime,
-    matches: &ArgMatches<'_>,
+    options: &Options<'_>,
     patch: PatchFile<'_>,
+    is_check: bool,
 ) -> Result<u8, ProgramError> {
     let alloc = rt.alloc();
-    let source = Source::open(rt, matches)?;
-    let mut style = style_of(alloc, matches)?;
-    let is_check = matches.get_flag("check");
+    let source = Document::open(rt, options)?;
+    let mut style = style_of(alloc, options)?;
     if is_check {
         style.layout = Layout::Compact;
     }
@@ -49,8 +49,8 @@ pub fn patch_long(
 /// Returns whether both are texts, and no number of them loses digits.
 fn keeps_digits(
     alloc: Global,
-    source: &Source<'_>,
-    patch: &Source<'_>,
+    source: &Document<'_>,
+    patch: &Document<'_>,
 ) -> Result<bool, AllocError> {
     let (Ok(text), Ok(given)) = (from_utf8(source.as_bytes()), from_utf8(patch.as_bytes())) else {
         return Ok(false);
@@ -62,7 +62,7 @@ fn keeps_digits(
 /// one.
 fn new_text(
     alloc: Global,
-    source: &Source<'_>,
+    source: &Document<'_>,
     patch: PatchFile<'_>,
     style: OutputStyle,
 ) -> Result<Result<String, PatchText>, ProgramError> {
@@ -83,7 +83,7 @@ fn new_text(
 /// Returns the new document as it is printed, with a line break at its end if it is laid out anew.
 fn finished(
     alloc: Global,
-    source: &Source<'_>,
+    source: &Document<'_>,
     new: String,
     style: OutputStyle,
 ) -> Result<String, ProgramError> {
@@ -100,7 +100,7 @@ fn finished(
 /// Returns the patch that the document is, with the texts of its values in the file.
 fn raw_patch_in(
     alloc: Global,
-    file: &Source<'_>,
+    file: &Document<'_>,
     document: Value,
 ) -> Result<PatchText, ProgramError> {
     match PatchText::of(alloc, file.text(alloc)?, document) {
@@ -115,7 +115,7 @@ fn raw_patch_in(
 /// Applies the operations in the text.
 fn one_by_one(
     rt: &HostRuntime,
-    source: &Source<'_>,
+    source: &Document<'_>,
     patch: PatchText,
     style: OutputStyle,
     is_check: bool,

@@ -4,22 +4,25 @@
 //! are the command line, the files, the standard streams and the texts of errors.
 #![tactic(auto)]
 
-mod arguments;
 mod changes;
 mod colors;
+mod command_line;
 mod commands;
 mod comments;
 mod difference;
 mod digits;
+mod document;
 mod drawn;
 mod exact_difference;
 mod exact_lines;
 mod expansion;
-mod gaps;
+mod generate;
+mod guesses;
 mod help;
 mod in_place;
 mod input;
 mod inverse;
+mod invocation;
 mod locate;
 mod long_patch;
 mod lost_comment;
@@ -33,13 +36,14 @@ mod position;
 mod program_error;
 mod relayout;
 mod report;
+mod rows;
 mod several;
 mod shown;
-mod source;
 mod style;
 mod syntax;
 mod task;
 mod toml_file;
+mod toml_json;
 mod value_argument;
 mod written;
 

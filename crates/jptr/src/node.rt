@@ -1,12 +1,12 @@
 //! Commands on the value that a pointer resolves to: its type, its length, its keys, and a test.
 
-use crate::operands::{argument, check_json, file_of, pointer_of};
+use crate::document::{Document, FileFormat};
+use crate::invocation::{Options, Testing, ValueWord};
+use crate::operands::pointer_of;
 use crate::output::print_text;
 use crate::program_error::ProgramError;
-use crate::source::{FileFormat, Source};
 use crate::style::layout_of;
 use crate::value_argument::ValueArgument;
-use clap::ArgMatches;
 use jptr_tasks::exit_status::NO;
 use jptr_tasks::layout::{Layout, show};
 use jptr_tasks::node::{equals_in_text, keys_in_text, length_in_text, type_in_text};
@@ -18,27 +18,50 @@ use serde_json::{Map, Value};
 use std::alloc::{AllocError, Global};
 use std::fs;
 
-/// Prints the type, the length or the keys of the value, as the command with this name says.
+/// What is printed of a value.
+#[derive(Clone, Copy)]
+pub enum Property {
+    /// Its keys.
+    Keys,
+    /// Its length.
+    Length,
+    /// Its type.
+    Type,
+}
+
+impl Property {
+    /// Returns its name, which is that of its command.
+    fn name(self) -> &'static str {
+        match self {
+            Property::Keys => "keys",
+            Property::Length => "length",
+            Property::Type => "type",
+        }
+    }
+}
+
+/// Prints the property of the value at the pointer.
 pub fn print_node(
     rt: &HostRuntime,
-    matches: &ArgMatches<'_>,
-    command: &str,
+    options: &Options<'_>,
+    pointer: &str,
+    property: Property,
 ) -> Result<u8, ProgramError> {
     let alloc = rt.alloc();
-    let pointer = pointer_of(alloc, argument(matches, "POINTER"))?;
-    let source = Source::open_json(rt, matches, command)?;
+    let pointer = pointer_of(alloc, pointer)?;
+    let source = Document::open_json(rt, options)?;
     let text = source.text(alloc)?;
-    let lines = match command {
-        "type" => type_line(alloc, text, pointer),
-        "length" => length_line(alloc, text, pointer),
-        _ => key_lines(alloc, text, pointer, layout_of(matches)),
+    let lines = match property {
+        Property::Keys => key_lines(alloc, text, pointer, layout_of(options.layout)),
+        Property::Length => length_line(alloc, text, pointer),
+        Property::Type => type_line(alloc, text, pointer),
     };
     match lines {
         Ok(Some(lines)) => {
             print_text(rt, lines.as_str())?;
             Ok(0)
         }
-        Ok(None) => Err(lacking(alloc, &source, pointer, command)),
+        Ok(None) => Err(lacking(alloc, &source, pointer, property.name())),
         Err(error) => Err(source.error(alloc, pointer.as_str(), error)),
     }
 }
@@ -75,18 +98,24 @@ fn key_lines(
 }
 
 /// Says by the status whether the value is there, or whether it equals another one.
-pub fn test(rt: &HostRuntime, matches: &ArgMatches<'_>) -> Result<u8, ProgramError> {
+pub fn test(
+    rt: &HostRuntime,
+    options: &Options<'_>,
+    testing: Testing<'_>,
+) -> Result<u8, ProgramError> {
     let alloc = rt.alloc();
-    let pointer = pointer_of(alloc, argument(matches, "POINTER"))?;
-    let word = matches.get_str("JSON");
-    let is_file = is_file(rt, matches, word);
-    let value = match word {
-        Some(word) if !is_file => Some(ValueArgument::read(rt, matches, word)?.json(alloc)?),
-        _ => None,
-    };
-    let file = if is_file { word } else { file_of(matches) };
-    check_json(alloc, "test", file)?;
-    let source = Source::read_as(rt, FileFormat::of_file(matches, file), file)?;
+    let pointer = pointer_of(alloc, testing.pointer)?;
+    let mut file = options.file;
+    let mut value = None;
+    if let Some(word) = testing.value {
+        if file.is_none() && is_file(rt, word) {
+            file = Some(word.text);
+        } else {
+            value = Some(ValueArgument::read(rt, word, file)?.json(alloc)?);
+        }
+    }
+    let format = FileFormat::of(options.format_flag, file);
+    let source = Document::read_as(rt, format, file)?.as_json(alloc)?;
     match passes(alloc, source.text(alloc)?, pointer, value) {
         Ok(true) => Ok(0),
         Ok(false) => Ok(NO),
@@ -95,15 +124,9 @@ pub fn test(rt: &HostRuntime, matches: &ArgMatches<'_>) -> Result<u8, ProgramErr
     }
 }
 
-/// Returns whether the last argument is the name of a file, and not a JSON text.
-fn is_file(rt: &HostRuntime, matches: &ArgMatches<'_>, word: Option<&str>) -> bool {
-    match word {
-        Some(word) => matches.get_str("FILE").is_none()
-            && !matches.get_flag("string")
-            && is_not_json(rt.alloc(), word)
-            && fs::metadata(rt, word).is_ok(),
-        None => false,
-    }
+/// Returns whether the word is the name of a file, and not a JSON text or a string.
+fn is_file(rt: &HostRuntime, word: ValueWord<'_>) -> bool {
+    !word.is_string && is_not_json(rt.alloc(), word.text) && fs::metadata(rt, word.text).is_ok()
 }
 
 /// Returns whether the text is not JSON, as far as there is memory to read it.
@@ -151,7 +174,7 @@ fn push_line(
 }
 
 /// Returns the error of a value that has no length, or no keys.
-fn lacking(alloc: Global, source: &Source<'_>, pointer: Pointer<'_>, what: &str) -> ProgramError {
+fn lacking(alloc: Global, source: &Document<'_>, pointer: Pointer<'_>, what: &str) -> ProgramError {
     let text = match source.text(alloc) {
         Ok(text) => text,
         Err(error) => return error,

@@ -1,61 +1,23 @@
 //! The arguments of a command: pointers and files.
 
 use crate::program_error::ProgramError;
-use clap::ArgMatches;
 use jptr_tasks::exit_status::{FILE, USAGE};
 use jsonptr::Pointer;
-use std::alloc::{AllocError, Global};
+use std::alloc::Global;
 use std::fs;
 use std::io::ErrorKind;
 
-/// Returns the value of a required argument.
-pub fn argument<'a>(matches: &ArgMatches<'a>, name: &str) -> &'a str {
-    match matches.get_str(name) {
-        Some(text) => text,
-        None => "",
-    }
-}
-
-/// Returns the file of the command, if there is one: the last of its further words. After pairs of a
-/// pointer and a value it is there if one word is left.
-pub fn file_of<'a>(matches: &ArgMatches<'a>) -> Option<&'a str> {
-    let words = matches.get_strs("FILE")?;
-    if has_file(matches, words) {
-        words.last().copied()
-    } else {
-        None
-    }
-}
-
-/// Returns the words after the first pointer, or after the first pair of a pointer and a value, and
-/// before the file.
-pub fn more_operands<'a>(
-    alloc: Global,
-    matches: &ArgMatches<'a>,
-) -> Result<Vec<&'a str>, AllocError> {
-    let mut more = Vec::new(alloc);
-    let Some(words) = matches.get_strs("FILE") else {
-        return Ok(more);
-    };
-    let after = if has_file(matches, words) { 1 } else { 0 };
-    for word in words.iter().take(words.len().saturating_sub(after)) {
-        more.push(*word)?;
-    }
-    Ok(more)
-}
-
-/// Returns whether the last of the further words is the file.
-fn has_file(matches: &ArgMatches<'_>, words: &[&str]) -> bool {
-    matches.get_str("JSON").is_none() || words.len() % 2 == 1
-}
-
 /// Fails if the last word after a pointer is taken as the file, no file has this name, and it looks like a
 /// pointer too.
-pub fn check_last_word(rt: &HostRuntime, matches: &ArgMatches<'_>) -> Result<(), ProgramError> {
-    let Some(word) = file_of(matches) else {
+pub fn check_last_word(
+    rt: &HostRuntime,
+    file: Option<&str>,
+    pointer: &str,
+) -> Result<(), ProgramError> {
+    let Some(word) = file else {
         return Ok(());
     };
-    if !word.starts_with('/') || !argument(matches, "POINTER").starts_with('/') {
+    if !word.starts_with('/') || !pointer.starts_with('/') {
         return Ok(());
     }
     match fs::metadata(rt, word) {

@@ -1,12 +1,13 @@
 //! Commands that are one operation of a patch (RFC 6902): `insert`, `move`, `copy` and `rename`.
 
-use crate::operands::{argument, check_json, pointer_of};
+use crate::document::{Document, FileFormat};
+use crate::invocation::{Assignment, Options, Renaming, Transfer};
+use crate::operands::{check_json, pointer_of};
 use crate::program_error::ProgramError;
-use crate::source::Source;
 use crate::style::{OutputStyle, style_of};
 use crate::task::{result_of, run_task, tried};
+use crate::toml_file;
 use crate::value_argument::ValueArgument;
-use clap::ArgMatches;
 use jptr_tasks::exit_status::{NOT_MADE, USAGE};
 use jptr_tasks::layout::Layout;
 use jptr_tasks::node::{length_in_text, type_in_text};
@@ -47,20 +48,24 @@ impl<'a> SingleOperation<'a> {
 }
 
 /// Inserts a value before an element of an array, or adds a member: the operation `add`.
-pub fn insert(rt: &HostRuntime, matches: &ArgMatches<'_>) -> Result<u8, ProgramError> {
+pub fn insert(
+    rt: &HostRuntime,
+    options: &Options<'_>,
+    assignment: Assignment<'_>,
+) -> Result<u8, ProgramError> {
     let alloc = rt.alloc();
-    check_json(alloc, "insert", matches.get_str("FILE"))?;
-    let path = pointer_of(alloc, argument(matches, "POINTER"))?;
-    let value = ValueArgument::read(rt, matches, argument(matches, "JSON"))?.raw(alloc)?;
-    if matches.get_flag("lines") {
+    check_json(alloc, "insert", options.file)?;
+    let path = pointer_of(alloc, assignment.pointer)?;
+    let value = ValueArgument::read(rt, assignment.value, options.file)?.raw(alloc)?;
+    if options.lines.is_some() {
         return run_task(
             rt,
-            matches,
+            options,
             Task::Edit(Edit::Patch(addition(alloc, path, value)?)),
         );
     }
-    let source = Source::open(rt, matches)?;
-    let style = style_of(alloc, matches)?;
+    let source = Document::open(rt, options)?;
+    let style = style_of(alloc, options)?;
     let operation = SingleOperation {
         task: Task::Edit(Edit::Patch(addition(alloc, path, value)?)),
         from: None,
@@ -80,46 +85,60 @@ fn addition(alloc: Global, path: Pointer<'_>, value: RawValue) -> Result<PatchTe
     }
 }
 
-/// Moves or copies a value: the operation with this name.
-pub fn transfer(
+/// Moves a value: the operation `move`.
+pub fn move_value(
     rt: &HostRuntime,
-    matches: &ArgMatches<'_>,
-    command: &str,
+    options: &Options<'_>,
+    transfer: Transfer<'_>,
 ) -> Result<u8, ProgramError> {
     let alloc = rt.alloc();
-    check_json(alloc, command, matches.get_str("FILE"))?;
-    let from = pointer_of(alloc, argument(matches, "FROM"))?;
-    let path = pointer_of(alloc, argument(matches, "POINTER"))?;
-    if command == "move" && is_proper_prefix(from, path) {
+    check_json(alloc, "move", options.file)?;
+    let from = pointer_of(alloc, transfer.from)?;
+    let path = pointer_of(alloc, transfer.path)?;
+    if is_proper_prefix(from, path) {
         return Err(ProgramError::new(alloc, USAGE, "POINTER", INTO_SELF));
     }
-    let operation = transfer_of(alloc, command, from, path)?;
-    if command == "copy" || matches.get_flag("lines") {
-        return run(rt, matches, operation);
+    let operation = Operation::Move {
+        from: from.to_buf(alloc)?,
+        path: path.to_buf(alloc)?,
+    };
+    let single = single_operation(alloc, from, path, operation)?;
+    if options.lines.is_some() {
+        return run_task(rt, options, single.task);
     }
-    let source = Source::open(rt, matches)?;
-    put_moved(rt, matches, &source, operation)
+    let source = Document::open(rt, options)?;
+    put_moved(rt, options, &source, single)
 }
 
-/// Returns the operation that moves or copies a value.
-fn transfer_of<'a>(
+/// Copies a value: the operation `copy`.
+pub fn copy_value(
+    rt: &HostRuntime,
+    options: &Options<'_>,
+    transfer: Transfer<'_>,
+) -> Result<u8, ProgramError> {
+    let alloc = rt.alloc();
+    check_json(alloc, "copy", options.file)?;
+    let from = pointer_of(alloc, transfer.from)?;
+    let path = pointer_of(alloc, transfer.path)?;
+    let operation = Operation::Copy {
+        from: from.to_buf(alloc)?,
+        path: path.to_buf(alloc)?,
+    };
+    let single = single_operation(alloc, from, path, operation)?;
+    if options.lines.is_some() {
+        return run_task(rt, options, single.task);
+    }
+    let source = Document::open(rt, options)?;
+    put(rt, &source, &single, style_of(alloc, options)?)
+}
+
+/// Returns the operation on the value at a pointer, which is put at another one.
+fn single_operation<'a>(
     alloc: Global,
-    command: &str,
     from: Pointer<'a>,
     path: Pointer<'a>,
+    operation: Operation,
 ) -> Result<SingleOperation<'a>, AllocError> {
-    let (old, new) = (from.to_buf(alloc)?, path.to_buf(alloc)?);
-    let operation = if command == "copy" {
-        Operation::Copy {
-            from: old,
-            path: new,
-        }
-    } else {
-        Operation::Move {
-            from: old,
-            path: new,
-        }
-    };
     let patch = PatchText::from_operations(alloc, vec![in alloc; operation]?)?;
     Ok(SingleOperation {
         task: Task::Edit(Edit::Patch(patch)),
@@ -129,16 +148,22 @@ fn transfer_of<'a>(
 }
 
 /// Renames a member. Fails if another member of the object has the key.
-pub fn rename(rt: &HostRuntime, matches: &ArgMatches<'_>) -> Result<u8, ProgramError> {
+pub fn rename(
+    rt: &HostRuntime,
+    options: &Options<'_>,
+    renaming: Renaming<'_>,
+) -> Result<u8, ProgramError> {
     let alloc = rt.alloc();
-    check_json(alloc, "rename", matches.get_str("FILE"))?;
-    let pointer = pointer_of(alloc, argument(matches, "POINTER"))?;
+    let pointer = pointer_of(alloc, renaming.pointer)?;
     if pointer.is_root() {
         return Err(ProgramError::new(alloc, USAGE, "POINTER", "the root has no key"));
     }
-    let source = Source::open(rt, matches)?;
-    let task = Task::Edit(Edit::Rename(pointer, argument(matches, "KEY")));
-    match tried(alloc, &source, &task, style_of(alloc, matches)?)? {
+    if options.format == FileFormat::Toml {
+        return toml_file::rename(rt, options, pointer, renaming.key);
+    }
+    let source = Document::open(rt, options)?;
+    let task = Task::Edit(Edit::Rename(pointer, renaming.key));
+    match tried(alloc, &source, &task, style_of(alloc, options)?)? {
         Ok(new) => {
             source.put(rt, new.as_str())?;
             Ok(0)
@@ -151,7 +176,7 @@ pub fn rename(rt: &HostRuntime, matches: &ArgMatches<'_>) -> Result<u8, ProgramE
 /// Returns why the member is not renamed.
 fn not_renamed(
     alloc: Global,
-    source: &Source<'_>,
+    source: &Document<'_>,
     pointer: Pointer<'_>,
     error: RenameError,
 ) -> Result<ProgramError, ProgramError> {
@@ -166,7 +191,7 @@ fn not_renamed(
 /// Returns the error of a pointer that resolves to nothing.
 fn missing(
     alloc: Global,
-    source: &Source<'_>,
+    source: &Document<'_>,
     pointer: Pointer<'_>,
 ) -> Result<ProgramError, ProgramError> {
     match type_in_text(alloc, source.text(alloc)?, pointer) {
@@ -181,16 +206,16 @@ fn missing(
 /// where that is the same: while it is there, it shows the layout.
 fn put_moved(
     rt: &HostRuntime,
-    matches: &ArgMatches<'_>,
-    source: &Source<'_>,
+    options: &Options<'_>,
+    source: &Document<'_>,
     operation: SingleOperation<'_>,
 ) -> Result<u8, ProgramError> {
     let mut operation = operation;
     if operation.from == Some(operation.path) {
-        return put_unmoved(rt, matches, source, operation.path);
+        return put_unmoved(rt, options, source, operation.path);
     }
     let other = only_child_patch(rt.alloc(), source, &operation)?;
-    let style = style_of(rt.alloc(), matches)?;
+    let style = style_of(rt.alloc(), options)?;
     if let Some(patch) = other {
         // A move that is made loses no comment.
         if !source.has_comments() || is_made(rt.alloc(), source, &operation, style)? {
@@ -203,15 +228,15 @@ fn put_moved(
 /// Prints the document, or leaves its file as it is, if the pointer resolves to a value.
 fn put_unmoved(
     rt: &HostRuntime,
-    matches: &ArgMatches<'_>,
-    source: &Source<'_>,
+    options: &Options<'_>,
+    source: &Document<'_>,
     pointer: Pointer<'_>,
 ) -> Result<u8, ProgramError> {
     let alloc = rt.alloc();
     if let Err(error) = type_in_text(alloc, source.text(alloc)?, pointer) {
         return Err(source.error(alloc, pointer.as_str(), error));
     }
-    let style = style_of(alloc, matches)?;
+    let style = style_of(alloc, options)?;
     if style.layout == Layout::Kept {
         source.put(rt, source.whole_text(alloc)?.as_str())?;
         return Ok(0);
@@ -226,7 +251,7 @@ fn put_unmoved(
 /// Returns whether the operation can be made in the document.
 fn is_made(
     alloc: Global,
-    source: &Source<'_>,
+    source: &Document<'_>,
     operation: &SingleOperation<'_>,
     style: OutputStyle,
 ) -> Result<bool, ProgramError> {
@@ -242,7 +267,7 @@ fn is_made(
 /// removes it. Returns `None` if the operation does not move such a child.
 fn only_child_patch(
     alloc: Global,
-    source: &Source<'_>,
+    source: &Document<'_>,
     operation: &SingleOperation<'_>,
 ) -> Result<Option<PatchText>, ProgramError> {
     let Some(from) = operation.from else {
@@ -266,7 +291,7 @@ fn only_child_patch(
 /// that or to its end.
 fn moves_only_child(
     alloc: Global,
-    source: &Source<'_>,
+    source: &Document<'_>,
     from: Pointer<'_>,
     path: Pointer<'_>,
 ) -> Result<bool, ProgramError> {
@@ -301,23 +326,10 @@ fn is_alone(
     Ok(matches!(node_type, NodeType::Object) || token.encoded() == "-")
 }
 
-/// Runs the operation on the document, or on each line.
-fn run(
-    rt: &HostRuntime,
-    matches: &ArgMatches<'_>,
-    operation: SingleOperation<'_>,
-) -> Result<u8, ProgramError> {
-    if matches.get_flag("lines") {
-        return run_task(rt, matches, operation.task);
-    }
-    let source = Source::open(rt, matches)?;
-    put(rt, &source, &operation, style_of(rt.alloc(), matches)?)
-}
-
 /// Prints the document after the operation, or replaces the text of the file by it.
 fn put(
     rt: &HostRuntime,
-    source: &Source<'_>,
+    source: &Document<'_>,
     operation: &SingleOperation<'_>,
     style: OutputStyle,
 ) -> Result<u8, ProgramError> {

@@ -1,7 +1,7 @@
 //! Reading a patch document.
 
+use crate::document::Document;
 use crate::program_error::ProgramError;
-use crate::source::Source;
 use jptr_tasks::task_error::TaskError;
 use jsonptr_text_value::{FailedPatch, PatchText, PlainPatch};
 use std::alloc::Global;
@@ -10,7 +10,7 @@ use std::alloc::Global;
 #[derive(Drop)]
 pub struct PatchFile<'a> {
     /// Its name and its bytes.
-    pub source: Source<'a>,
+    pub source: Document<'a>,
     /// The document, and its operations.
     pub patch: PlainPatch,
 }
@@ -19,7 +19,7 @@ impl<'a> PatchFile<'a> {
     /// Reads a patch document from a file or from standard input.
     pub fn read(rt: &HostRuntime, file: &'a str) -> Result<PatchFile<'a>, ProgramError> {
         let alloc = rt.alloc();
-        let source = Source::read(rt, Some(file))?;
+        let source = Document::read(rt, Some(file))?;
         match PlainPatch::of(alloc, source.value(alloc)?) {
             Ok(patch) => Ok(PatchFile { source, patch }),
             Err(FailedPatch { document, error }) => Err(ProgramError::of_patch(

@@ -1,18 +1,24 @@
 //! The tasks of `get`, `set` and `delete`, also of several pointers: all of them apply, or nothing is
 //! printed or changed.
 
+use crate::document::Document;
+use crate::exact_lines::{ExactTask, LineJob};
 use crate::expansion::check_expansion;
-use crate::operands::{argument, pointer_of};
+use crate::invocation::{Assigning, Assignment, Deleting, Finding, LineFlags, Options, ValueWord};
+use crate::operands::pointer_of;
 use crate::output::print_text;
 use crate::program_error::ProgramError;
-use crate::source::{FileFormat, Source};
+use crate::rows::{Row, RowForm, row_text};
 use crate::style::{OutputStyle, style_of};
-use crate::task::{laid_out, result_of, source_result};
+use crate::task::{
+    fallback_of, laid_out, line_name, line_task, result_of, run_job, source_result, task_error,
+    tried,
+};
 use crate::value_argument::{ValueArgument, json_default};
-use clap::ArgMatches;
 use jptr_tasks::exit_status::USAGE;
 use jptr_tasks::layout::Layout;
 use jptr_tasks::task::Task;
+use jptr_tasks::task_error::TaskError;
 use jsonptr::Pointer;
 use jsonptr_text_edit::Edit;
 use std::alloc::{AllocError, Global};
@@ -20,37 +26,36 @@ use std::alloc::{AllocError, Global};
 /// Returns the task of finding the value at the pointer with this text.
 pub fn get_task<'a>(
     alloc: Global,
-    matches: &ArgMatches<'_>,
     pointer: &'a str,
+    default: Option<&str>,
+    is_lossy: bool,
 ) -> Result<Task<'a>, ProgramError> {
     let pointer = pointer_of(alloc, pointer)?;
-    Ok(Task::Get(pointer, json_default(alloc, matches)?))
+    Ok(Task::Get(pointer, json_default(alloc, default, is_lossy)?))
 }
 
-/// Returns the task of assigning a value at the pointer with this text.
+/// Returns the task of assigning a value in the document in this file.
 pub fn set_task<'a>(
     rt: &HostRuntime,
-    matches: &ArgMatches<'_>,
-    pointer: &'a str,
-    value: &str,
+    file: Option<&str>,
+    assignment: Assignment<'a>,
 ) -> Result<Task<'a>, ProgramError> {
-    let pointer = pointer_of(rt.alloc(), pointer)?;
-    let value = ValueArgument::read(rt, matches, value)?.raw(rt.alloc())?;
+    let pointer = pointer_of(rt.alloc(), assignment.pointer)?;
+    let value = ValueArgument::read(rt, assignment.value, file)?.raw(rt.alloc())?;
     Ok(Task::Edit(Edit::Assign(pointer, value)))
 }
 
 /// Prints the value that each pointer resolves to, each on its own or all as one object.
-pub fn get_each<'a>(
+pub fn get_each(
     rt: &HostRuntime,
-    matches: &ArgMatches<'a>,
-    more: &[&'a str],
+    options: &Options<'_>,
+    finding: &Finding<'_>,
 ) -> Result<u8, ProgramError> {
     let alloc = rt.alloc();
-    check_several(alloc, matches)?;
-    let tasks = get_tasks(alloc, matches, more)?;
-    let style = style_of(alloc, matches)?;
-    let source = Source::open(rt, matches)?;
-    let values = if matches.get_flag("object") {
+    let tasks = get_tasks(alloc, finding, options.is_lossy)?;
+    let style = style_of(alloc, options)?;
+    let source = Document::open_json(rt, options)?;
+    let values = if finding.is_object {
         object_of(alloc, &source, tasks.as_slice(), style)?
     } else {
         values_of(alloc, &source, tasks.as_slice(), style)?
@@ -66,13 +71,12 @@ pub fn get_each<'a>(
 /// Returns the tasks of finding the value at each pointer.
 fn get_tasks<'a>(
     alloc: Global,
-    matches: &ArgMatches<'a>,
-    more: &[&'a str],
+    finding: &Finding<'a>,
+    is_lossy: bool,
 ) -> Result<Vec<Task<'a>>, ProgramError> {
     let mut tasks = Vec::new(alloc);
-    tasks.push(get_task(alloc, matches, argument(matches, "POINTER"))?)?;
-    for text in more {
-        tasks.push(get_task(alloc, matches, *text)?)?;
+    for text in &finding.pointers {
+        tasks.push(get_task(alloc, *text, finding.default, is_lossy)?)?;
     }
     Ok(tasks)
 }
@@ -80,7 +84,7 @@ fn get_tasks<'a>(
 /// Returns the results of the tasks on the document, one after another.
 fn values_of(
     alloc: Global,
-    source: &Source<'_>,
+    source: &Document<'_>,
     tasks: &[Task<'_>],
     style: OutputStyle,
 ) -> Result<String, ProgramError> {
@@ -95,7 +99,7 @@ fn values_of(
 /// Returns one object of the results of the tasks on the document. Its keys are the pointers.
 fn object_of(
     alloc: Global,
-    source: &Source<'_>,
+    source: &Document<'_>,
     tasks: &[Task<'_>],
     style: OutputStyle,
 ) -> Result<String, ProgramError> {
@@ -119,85 +123,174 @@ fn push_member(
     task: &Task<'_>,
     value: &str,
 ) -> Result<(), AllocError> {
-    let Task::Get(pointer, _) = task else {
-        return Ok(());
-    };
-    let key = pointer.to_json_value(alloc)?.to_string(alloc)?;
-    object.push_str(key.as_str())?;
+    object.push_str(key_of(alloc, task)?.as_str())?;
     object.push_str(": ")?;
     object.push_str(value)
+}
+
+/// Returns the key of a value that a task found: its pointer, as a JSON string.
+fn key_of(alloc: Global, task: &Task<'_>) -> Result<String, AllocError> {
+    match task {
+        Task::Get(pointer, _) => pointer.to_json_value(alloc)?.to_string(alloc),
+        Task::Edit(_) => Ok(String::new(alloc)),
+    }
+}
+
+/// Prints the values that the pointers resolve to in each line, as one line.
+pub fn get_rows(
+    rt: &HostRuntime,
+    options: &Options<'_>,
+    finding: &Finding<'_>,
+    flags: LineFlags,
+) -> Result<u8, ProgramError> {
+    let alloc = rt.alloc();
+    let tasks = get_tasks(alloc, finding, options.is_lossy)?;
+    let style = style_of(alloc, options)?;
+    let form = row_form(alloc, tasks.as_slice(), finding.is_object, style.layout)?;
+    let fallback = row_fallback(alloc, &form, tasks.as_slice(), style)?;
+    let mut cells = Vec::new(alloc);
+    for task in tasks {
+        let layout = cell_layout(finding.is_object, style);
+        let run = line_task(alloc, options.file, task, layout, flags.is_strict)?;
+        cells.push(ExactTask { run, style })?;
+    }
+    let row = Row {
+        cells,
+        form,
+        fallback,
+        name: line_name(alloc, options.file)?,
+        is_strict: flags.is_strict,
+    };
+    run_job(rt, options.file, flags, &LineJob::Several(row))
+}
+
+/// Returns how each value of a line is laid out: those of an object with it.
+fn cell_layout(is_object: bool, style: OutputStyle) -> Layout {
+    if is_object {
+        Layout::Kept
+    } else {
+        style.layout
+    }
+}
+
+/// Returns how the values of the tasks are one line.
+fn row_form(
+    alloc: Global,
+    tasks: &[Task<'_>],
+    is_object: bool,
+    layout: Layout,
+) -> Result<RowForm, AllocError> {
+    if !is_object {
+        return Ok(RowForm::Tabs);
+    }
+    let mut keys = Vec::new(alloc);
+    for task in tasks {
+        keys.push(key_of(alloc, task)?)?;
+    }
+    Ok(RowForm::Object(keys, layout))
+}
+
+/// Returns what is printed for a line at fault: the value of `--default` for each task.
+fn row_fallback(
+    alloc: Global,
+    form: &RowForm,
+    tasks: &[Task<'_>],
+    style: OutputStyle,
+) -> Result<Option<String>, ProgramError> {
+    let mut values = String::new(alloc);
+    for task in tasks {
+        let layout = match form {
+            RowForm::Tabs => style.layout,
+            RowForm::Object(_, _) => Layout::Compact,
+        };
+        match fallback_of(alloc, task, layout)? {
+            Some(value) => values.push_str(value.as_str())?,
+            None => return Ok(None),
+        }
+    }
+    match row_text(alloc, form, values.as_str()) {
+        Ok(Some(text)) => Ok(Some(text)),
+        Ok(None) => Err(ProgramError::new(alloc, USAGE, "--default", "contains a tab")),
+        Err(error) => Err(ProgramError::of_error(alloc, "--default", "", error)),
+    }
 }
 
 /// Deletes the value at each pointer, in order.
 pub fn delete_each(
     rt: &HostRuntime,
-    matches: &ArgMatches<'_>,
-    more: &[&str],
+    options: &Options<'_>,
+    deleting: &Deleting<'_>,
 ) -> Result<u8, ProgramError> {
     let alloc = rt.alloc();
-    check_several(alloc, matches)?;
+    check_several(alloc, options)?;
     let mut tasks = Vec::new(alloc);
-    let pointer = pointer_of(alloc, argument(matches, "POINTER"))?;
-    tasks.push(Task::Edit(Edit::Delete(pointer)))?;
-    for text in more {
+    for text in &deleting.pointers {
         tasks.push(Task::Edit(Edit::Delete(pointer_of(alloc, *text)?)))?;
     }
-    edit_each(rt, matches, tasks.as_slice())
+    let rules = EditRules {
+        style: style_of(alloc, options)?,
+        expands: true,
+        skips_missing: deleting.skips_missing,
+    };
+    edit_each(rt, &Document::open(rt, options)?, tasks.as_slice(), rules)
 }
 
 /// Assigns each value at the pointer before it, in order.
 pub fn set_each(
     rt: &HostRuntime,
-    matches: &ArgMatches<'_>,
-    more: &[&str],
+    options: &Options<'_>,
+    assigning: &Assigning<'_>,
 ) -> Result<u8, ProgramError> {
     let alloc = rt.alloc();
-    if !more.is_empty() {
-        check_several(alloc, matches)?;
+    if assigning.assignments.len() > 1 {
+        check_several(alloc, options)?;
     }
-    let first = argument(matches, "JSON");
-    if !matches.get_flag("string") {
-        check_values(alloc, first, more)?;
-    }
+    check_values(alloc, assigning.assignments.as_slice())?;
     let mut tasks = Vec::new(alloc);
-    tasks.push(set_task(rt, matches, argument(matches, "POINTER"), first)?)?;
-    for pair in 0..more.len() / 2 {
-        let at = pair.saturating_mul(2);
-        let value = word_at(more, at.saturating_add(1));
-        tasks.push(set_task(rt, matches, word_at(more, at), value)?)?;
+    for assignment in &assigning.assignments {
+        tasks.push(set_task(rt, options.file, *assignment)?)?;
     }
-    edit_each(rt, matches, tasks.as_slice())
+    let rules = EditRules {
+        style: style_of(alloc, options)?,
+        expands: assigning.expands,
+        skips_missing: false,
+    };
+    let source = Document::open_to_set(rt, options, assigning.creates)?;
+    edit_each(rt, &source, tasks.as_slice(), rules)
 }
 
-/// Returns the word at this position.
-fn word_at<'a>(words: &[&'a str], at: usize) -> &'a str {
-    match words.get(at) {
-        Some(word) => *word,
-        None => "",
-    }
+/// How edits are made one after another.
+#[derive(Clone, Copy)]
+struct EditRules {
+    /// How the document is edited and printed.
+    style: OutputStyle,
+    /// Whether containers are created on the way to a value, and scalars replaced by them.
+    expands: bool,
+    /// Whether a value that is not there is no error.
+    skips_missing: bool,
 }
 
 /// Does the tasks one after another on the document, and prints it, or replaces the text of the file by
 /// it.
 fn edit_each(
     rt: &HostRuntime,
-    matches: &ArgMatches<'_>,
+    source: &Document<'_>,
     tasks: &[Task<'_>],
+    rules: EditRules,
 ) -> Result<u8, ProgramError> {
     let alloc = rt.alloc();
-    let style = style_of(alloc, matches)?;
-    let expands = !matches.get_flag("no-expand");
-    let source = Source::open(rt, matches)?;
-    let style = if source.missing.is_some() {
-        style.for_new()
-    } else {
-        style
-    };
-    if style.layout != Layout::Kept {
+    let mut rules = rules;
+    if source.missing.is_some() {
+        rules.style = rules.style.for_new();
+    }
+    if rules.style.layout != Layout::Kept {
         source.check_bare(alloc)?;
     }
-    let edited = edited_by_each(alloc, &source, tasks, style, expands)?;
-    source.put(rt, laid_out(alloc, source.name, edited, style)?.as_str())?;
+    let edited = edited_by_each(alloc, source, tasks, rules)?;
+    source.put(
+        rt,
+        laid_out(alloc, source.name, edited, rules.style)?.as_str(),
+    )?;
     Ok(0)
 }
 
@@ -205,43 +298,57 @@ fn edit_each(
 /// is possible.
 fn edited_by_each(
     alloc: Global,
-    source: &Source<'_>,
+    source: &Document<'_>,
     tasks: &[Task<'_>],
-    style: OutputStyle,
-    expands: bool,
+    rules: EditRules,
 ) -> Result<String, ProgramError> {
     let mut text = source.whole_text(alloc)?;
     for task in tasks {
-        let before = Source::of(alloc, source.name, source.format, text.into_bytes())?;
-        if !expands {
+        let before = Document::of(alloc, source.name, source.format(), text.into_bytes())?;
+        if !rules.expands {
             check_expansion(alloc, before.name, before.text(alloc)?, task)?;
         }
-        text = source_result(alloc, &before, task, style.for_edit())?;
+        text = edited_by(alloc, &before, task, rules)?;
     }
     Ok(text)
 }
 
-/// Fails if the flags or the file do not allow several pointers.
-fn check_several(alloc: Global, matches: &ArgMatches<'_>) -> Result<(), ProgramError> {
-    if matches.get_flag("lines") {
-        return Err(ProgramError::new(alloc, USAGE, "--lines", "takes one pointer"));
+/// Returns the text of the document after the task. Without the value that it deletes, that may be the same.
+fn edited_by(
+    alloc: Global,
+    before: &Document<'_>,
+    task: &Task<'_>,
+    rules: EditRules,
+) -> Result<String, ProgramError> {
+    match tried(alloc, before, task, rules.style.for_edit())? {
+        Ok(new) => Ok(new),
+        Err(TaskError::NotThere) if rules.skips_missing => before.whole_text(alloc),
+        Err(error) => Err(task_error(alloc, before.name, before.as_bytes(), task, error)),
     }
-    if FileFormat::of(matches) == FileFormat::Toml {
-        let message = "a TOML document takes one pointer at a time";
-        return Err(ProgramError::new(alloc, USAGE, "POINTER", message));
+}
+
+/// Fails if each line is a document, for which there is one edit.
+fn check_several(alloc: Global, options: &Options<'_>) -> Result<(), ProgramError> {
+    if options.lines.is_some() {
+        return Err(ProgramError::new(alloc, USAGE, "--lines", "takes one pointer"));
     }
     Ok(())
 }
 
 /// Fails if standard input would be more than one value.
-fn check_values(alloc: Global, first: &str, more: &[&str]) -> Result<(), ProgramError> {
-    let mut is_read = first == "@-";
-    for word in more {
-        if is_read && *word == "@-" {
+pub fn check_values(alloc: Global, assignments: &[Assignment<'_>]) -> Result<(), ProgramError> {
+    let mut is_read = false;
+    for assignment in assignments {
+        if is_read && is_input(assignment.value) {
             let message = "standard input cannot be two values";
             return Err(ProgramError::new(alloc, USAGE, "JSON", message));
         }
-        is_read = is_read || *word == "@-";
+        is_read = is_read || is_input(assignment.value);
     }
     Ok(())
+}
+
+/// Returns whether the value is that of standard input.
+fn is_input(value: ValueWord<'_>) -> bool {
+    !value.is_string && value.text == "@-"
 }

@@ -1,16 +1,12 @@
 //! How results are printed.
 
-use crate::digits::is_lossy;
+use crate::invocation::{Indent, LayoutFlags, Options};
 use crate::program_error::ProgramError;
-use clap::ArgMatches;
 use jptr_tasks::exit_status::USAGE;
 use jptr_tasks::layout::Layout;
 use jptr_tasks::task_error::TaskError;
 use jsonptr_text_edit::{Buffers, IndentError, indent_text};
 use std::alloc::Global;
-
-/// The most spaces by which a level can be indented.
-const SPACES: &str = "                ";
 
 /// How the document is edited and printed.
 #[derive(Clone, Copy)]
@@ -47,14 +43,14 @@ impl OutputStyle {
 }
 
 /// Returns how results are printed, except for the indentation.
-pub fn layout_of(matches: &ArgMatches<'_>) -> Layout {
-    if matches.get_flag("raw") {
+pub fn layout_of(flags: LayoutFlags) -> Layout {
+    if flags.is_raw {
         Layout::Raw
-    } else if matches.get_flag("sort-keys") {
-        sorted(matches)
-    } else if is_pretty(matches) {
+    } else if flags.sorts_keys {
+        sorted(flags)
+    } else if is_pretty(flags) {
         Layout::Pretty
-    } else if matches.get_flag("compact") {
+    } else if flags.is_compact {
         Layout::Compact
     } else {
         Layout::Kept
@@ -62,8 +58,8 @@ pub fn layout_of(matches: &ArgMatches<'_>) -> Layout {
 }
 
 /// Returns how results with sorted members are printed.
-fn sorted(matches: &ArgMatches<'_>) -> Layout {
-    if is_pretty(matches) {
+fn sorted(flags: LayoutFlags) -> Layout {
+    if is_pretty(flags) {
         Layout::SortedPretty
     } else {
         Layout::Sorted
@@ -71,37 +67,26 @@ fn sorted(matches: &ArgMatches<'_>) -> Layout {
 }
 
 /// Returns whether results are printed on lines.
-fn is_pretty(matches: &ArgMatches<'_>) -> bool {
-    matches.get_flag("pretty") || matches.get_str("indent").is_some()
+fn is_pretty(flags: LayoutFlags) -> bool {
+    flags.is_pretty || flags.indent != Indent::Plain
 }
 
 /// Returns how the document is edited and printed.
-pub fn style_of(alloc: Global, matches: &ArgMatches<'_>) -> Result<OutputStyle, ProgramError> {
-    let indent = match matches.get_str("indent") {
-        Some(text) => Some(indent_of(alloc, text)?),
-        None => None,
+pub fn style_of(alloc: Global, options: &Options<'_>) -> Result<OutputStyle, ProgramError> {
+    let indent = match options.layout.indent {
+        Indent::Plain => None,
+        Indent::By(text) => Some(text),
+        Indent::Wrong => {
+            let message = "needs a number of spaces, 1 to 16, or tab";
+            return Err(ProgramError::new(alloc, USAGE, "--indent", message));
+        }
     };
     Ok(OutputStyle {
-        layout: layout_of(matches),
+        layout: layout_of(options.layout),
         indent,
-        reformats: matches.get_flag("reformat"),
-        is_lossy: is_lossy(matches),
+        reformats: options.reformats,
+        is_lossy: options.is_lossy,
     })
-}
-
-/// Returns the indentation of a level: a tab, or spaces.
-fn indent_of(alloc: Global, text: &str) -> Result<&'static str, ProgramError> {
-    if text == "tab" {
-        return Ok("\t");
-    }
-    let count = text.parse::<usize>().unwrap_or(0);
-    match SPACES.get(..count) {
-        Some(spaces) if count > 0 => Ok(spaces),
-        _ => {
-            let message = "needs a number of spaces, 1 to 16, or tab";
-            Err(ProgramError::new(alloc, USAGE, "--indent", message))
-        }
-    }
 }
 
 /// Returns what is printed, with the indentation of the style.

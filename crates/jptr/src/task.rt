@@ -3,16 +3,15 @@
 use crate::colors::are_colored;
 use crate::comments::{other_layout, result_with_comments};
 use crate::digits::{LossError, check_result, is_checked};
+use crate::document::{Document, FileFormat};
 use crate::drawn::fault_of_task;
-use crate::exact_lines::{ExactTask, run_exact_lines};
+use crate::exact_lines::{ExactTask, LineJob, run_exact_lines};
 use crate::input::{name_of, open};
-use crate::operands::file_of;
+use crate::invocation::{LineFlags, Options};
 use crate::output::{Output, print_text};
 use crate::program_error::ProgramError;
 use crate::shown::shown;
-use crate::source::{FileFormat, Source};
 use crate::style::{OutputStyle, indented, style_of};
-use clap::ArgMatches;
 use jptr_tasks::document::{document_result, run_document};
 use jptr_tasks::exit_status::{BAD_LINE, USAGE};
 use jptr_tasks::layout::{Layout, show};
@@ -24,7 +23,7 @@ use jptr_tasks::task_error::TaskError;
 use jsonptr::Pointer;
 use jsonptr_text_edit::{Buffers, Edit, Edited, edit_text};
 use simdutf8::basic::from_utf8;
-use std::alloc::Global;
+use std::alloc::{AllocError, Global};
 use std::io::{BufReader, BufWriter, IsTerminal};
 
 /// The bytes that are read or written at once where each line is a document.
@@ -33,37 +32,34 @@ const BLOCK: usize = 65_536;
 /// Runs the task as the flags say, and returns the exit status.
 pub fn run_task(
     rt: &HostRuntime,
-    matches: &ArgMatches<'_>,
+    options: &Options<'_>,
     task: Task<'_>,
 ) -> Result<u8, ProgramError> {
-    let style = style_of(rt.alloc(), matches)?;
-    run_styled(rt, matches, task, style)
+    let style = style_of(rt.alloc(), options)?;
+    run_styled(rt, options, task, style)
 }
 
 /// Runs the task as the flags say, with results in this style, and returns the exit status.
 pub fn run_styled(
     rt: &HostRuntime,
-    matches: &ArgMatches<'_>,
+    options: &Options<'_>,
     task: Task<'_>,
     style: OutputStyle,
 ) -> Result<u8, ProgramError> {
-    let file = file_of(matches);
-    if matches.get_flag("check") {
-        checked(rt.alloc(), &Source::open(rt, matches)?, &task)
-    } else if matches.get_flag("lines") {
-        on_lines(rt, matches, task, style)
-    } else if is_read_first(matches, &task, style) || are_colored(rt, matches)? {
-        on_source(rt, &Source::open(rt, matches)?, &task, style)
+    if let Some(flags) = options.lines {
+        on_lines(rt, options.file, flags, task, style)
+    } else if is_read_first(options, &task, style) || are_colored(rt, options.color)? {
+        on_source(rt, &Document::open(rt, options)?, &task, style)
     } else {
-        on_document(rt, &task, style, file)
+        on_document(rt, &task, style, options.file)
     }
 }
 
 /// Returns whether the document is read before anything is printed: to change its file, to read past
 /// comments, to look for numbers that lose digits, or to print the result with an indentation of its own.
-fn is_read_first(matches: &ArgMatches<'_>, task: &Task<'_>, style: OutputStyle) -> bool {
-    matches.get_flag("in-place")
-        || FileFormat::of(matches) == FileFormat::Commented
+fn is_read_first(options: &Options<'_>, task: &Task<'_>, style: OutputStyle) -> bool {
+    options.is_in_place
+        || options.format == FileFormat::Commented
         || style.indent.is_some()
         || may_print(task, style)
         || is_checked(task, style)
@@ -75,7 +71,7 @@ fn may_print(task: &Task<'_>, style: OutputStyle) -> bool {
 }
 
 /// Runs the task on a document that is read, and prints nothing.
-pub fn checked(alloc: Global, source: &Source<'_>, task: &Task<'_>) -> Result<u8, ProgramError> {
+pub fn checked(alloc: Global, source: &Document<'_>, task: &Task<'_>) -> Result<u8, ProgramError> {
     match document_result(alloc, source.as_bytes(), task, Layout::Kept) {
         Ok(_new) => Ok(0),
         // The operations apply, but not in place.
@@ -100,7 +96,7 @@ fn on_document(
         Err(TaskError::Read) => Err(input.read_error(alloc, name_of(file))),
         Err(TaskError::Write) => Err(output.error(alloc)),
         Err(error) => {
-            let source = Source::of(alloc, name_of(file), FileFormat::Json, bytes)?;
+            let source = Document::of(alloc, name_of(file), FileFormat::Json, bytes)?;
             if source.has_mark {
                 return on_source(rt, &source, task, style);
             }
@@ -113,7 +109,7 @@ fn on_document(
 /// file by it.
 pub fn on_source(
     rt: &HostRuntime,
-    source: &Source<'_>,
+    source: &Document<'_>,
     task: &Task<'_>,
     style: OutputStyle,
 ) -> Result<u8, ProgramError> {
@@ -129,7 +125,7 @@ pub fn on_source(
 /// Returns the document after the task, with its comments. Fails if the task loses digits of a number.
 pub fn source_result(
     alloc: Global,
-    source: &Source<'_>,
+    source: &Document<'_>,
     task: &Task<'_>,
     style: OutputStyle,
 ) -> Result<String, ProgramError> {
@@ -143,7 +139,7 @@ pub fn source_result(
 /// would lose digits of a number, or comments.
 pub fn tried(
     alloc: Global,
-    source: &Source<'_>,
+    source: &Document<'_>,
     task: &Task<'_>,
     style: OutputStyle,
 ) -> Result<Result<String, TaskError>, ProgramError> {
@@ -230,7 +226,7 @@ pub fn laid_out(
 }
 
 /// Returns whether the result of the task has the comments of the document, or may be a text of it.
-fn keeps_comments(source: &Source<'_>, task: &Task<'_>, style: OutputStyle) -> bool {
+fn keeps_comments(source: &Document<'_>, task: &Task<'_>, style: OutputStyle) -> bool {
     match task {
         Task::Get(_, _) => source.target.is_some() || style.layout == Layout::Kept,
         Task::Edit(_) => true,
@@ -266,7 +262,7 @@ fn result_in_style(
 
 /// Returns the error of a task that failed on the bytes of the document with this name, with what is at
 /// fault.
-fn task_error(
+pub fn task_error(
     alloc: Global,
     name: &str,
     bytes: &[u8],
@@ -305,19 +301,31 @@ pub fn document_error(
 /// Runs the task on each line of the input, and prints each result as a line.
 fn on_lines(
     rt: &HostRuntime,
-    matches: &ArgMatches<'_>,
+    file: Option<&str>,
+    flags: LineFlags,
     task: Task<'_>,
     style: OutputStyle,
 ) -> Result<u8, ProgramError> {
+    let mut run = line_task(rt.alloc(), file, task, style.layout, flags.is_strict)?;
+    run.fallback = fallback_of(rt.alloc(), &run.task, style.layout)?;
+    let job = LineJob::One(ExactTask { run, style });
+    run_job(rt, file, flags, &job)
+}
+
+/// Runs the job on each line of the input, and prints each result as a line.
+pub fn run_job(
+    rt: &HostRuntime,
+    file: Option<&str>,
+    flags: LineFlags,
+    job: &LineJob<'_>,
+) -> Result<u8, ProgramError> {
     let alloc = rt.alloc();
-    let file = file_of(matches);
     // A writer without a buffer writes each line at once.
-    let block = if matches.get_flag("line-buffered") || rt.stdout().is_terminal() {
+    let block = if flags.is_buffered || rt.stdout().is_terminal() {
         0
     } else {
         BLOCK
     };
-    let run = line_task(alloc, matches, task, style.layout)?;
     let source = open(rt, file)?;
     let Ok(mut input) = BufReader::with_capacity(alloc, BLOCK, source) else {
         return Err(ProgramError::Memory);
@@ -328,8 +336,7 @@ fn on_lines(
     let Ok(mut errors) = BufWriter::with_capacity(alloc, block, rt.stderr()) else {
         return Err(ProgramError::Memory);
     };
-    let exact = ExactTask { run, style };
-    match run_exact_lines(alloc, &exact, &mut input, &mut output, &mut errors) {
+    match run_exact_lines(alloc, job, &mut input, &mut output, &mut errors) {
         Ok(Ended::Fine) => Ok(0),
         Ok(Ended::WithErrors | Ended::Stopped) => Ok(BAD_LINE),
         Err(TaskError::Read) => Err(input.get_ref().read_error(alloc, name_of(file))),
@@ -338,27 +345,31 @@ fn on_lines(
     }
 }
 
-/// Returns the task for each line, with results in this layout.
-fn line_task<'a>(
+/// Returns the task for each line, with results in this layout, and with nothing for a line at fault.
+pub fn line_task<'a>(
     alloc: Global,
-    matches: &ArgMatches<'_>,
+    file: Option<&str>,
     task: Task<'a>,
     layout: Layout,
+    is_strict: bool,
 ) -> Result<LineTask<'a>, ProgramError> {
-    let fallback = fallback_of(alloc, &task, layout)?;
-    let file = shown(alloc, name_of(file_of(matches)))?;
-    let name = format!(in alloc; "jptr: {file}")?;
     Ok(LineTask {
         task,
         layout,
-        fallback,
-        name,
-        is_strict: matches.get_flag("strict"),
+        fallback: None,
+        name: line_name(alloc, file)?,
+        is_strict,
     })
 }
 
+/// Returns the name of the input in reports of its lines.
+pub fn line_name(alloc: Global, file: Option<&str>) -> Result<String, AllocError> {
+    let file = shown(alloc, name_of(file))?;
+    format!(in alloc; "jptr: {file}")
+}
+
 /// Returns what is printed for a line at fault: the value of `--default`, which must be one line.
-fn fallback_of(
+pub fn fallback_of(
     alloc: Global,
     task: &Task<'_>,
     layout: Layout,

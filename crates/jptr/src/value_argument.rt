@@ -1,12 +1,11 @@
 //! The values that are arguments: texts, those of files, and strings.
 
-use crate::digits::{check_text, is_lossy};
+use crate::digits::check_text;
+use crate::document::past_mark;
 use crate::input::{is_standard, name_of, read_input, value_in};
-use crate::operands::file_of;
+use crate::invocation::ValueWord;
 use crate::program_error::ProgramError;
 use crate::shown::shown;
-use crate::source::past_mark;
-use clap::ArgMatches;
 use jptr_tasks::exit_status::{BAD_INPUT, USAGE};
 use jsonptr_text_edit::RawValue;
 use jsonptr_value::if_json;
@@ -30,31 +29,32 @@ pub enum ValueArgument<'a> {
 }
 
 impl<'a> ValueArgument<'a> {
-    /// Reads the value: the argument as a string if the flag `--string` is there, after `@` the text of a
-    /// file, and else the text of the argument.
+    /// Reads the value that is put into the document in this file: a string that is the word, after `@` the
+    /// text of a file, and else the text that is the word.
     pub fn read(
         rt: &HostRuntime,
-        matches: &ArgMatches<'_>,
-        argument: &'a str,
+        word: ValueWord<'a>,
+        document: Option<&str>,
     ) -> Result<ValueArgument<'a>, ProgramError> {
-        if matches.get_flag("string") {
-            return Ok(ValueArgument::String(argument));
+        let text = word.text;
+        if word.is_string {
+            return Ok(ValueArgument::String(text));
         }
-        match argument.strip_prefix('@') {
-            Some(file) => ValueArgument::read_file(rt, matches, file),
-            None if is_file_name(rt, matches, argument) => Ok(ValueArgument::FileName(argument)),
-            None => Ok(ValueArgument::Text("JSON", String::from_str(rt.alloc(), argument)?)),
+        match text.strip_prefix('@') {
+            Some(file) => ValueArgument::read_file(rt, file, document),
+            None if document.is_none() && is_file(rt, text) => Ok(ValueArgument::FileName(text)),
+            None => Ok(ValueArgument::Text("JSON", String::from_str(rt.alloc(), text)?)),
         }
     }
 
     /// Reads the text of a file, or of standard input if the document is not read from there.
     fn read_file(
         rt: &HostRuntime,
-        matches: &ArgMatches<'_>,
         file: &'a str,
+        document: Option<&str>,
     ) -> Result<ValueArgument<'a>, ProgramError> {
         let alloc = rt.alloc();
-        if is_standard(Some(file)) && is_standard(file_of(matches)) {
+        if is_standard(Some(file)) && is_standard(document) {
             let message = "standard input cannot be the value and the document";
             return Err(ProgramError::new(alloc, USAGE, "JSON", message));
         }
@@ -96,26 +96,19 @@ impl<'a> ValueArgument<'a> {
         }
     }
 
-    /// Returns it as a TOML value. Fails if a number loses digits, unless the flag `--lossy` is there.
-    pub fn toml(
-        self,
-        alloc: Global,
-        matches: &ArgMatches<'_>,
-    ) -> Result<toml::Value, ProgramError> {
+    /// Returns it as a TOML value. Fails if a number loses digits, unless that is lossy.
+    pub fn toml(self, alloc: Global, is_lossy: bool) -> Result<toml::Value, ProgramError> {
         match self {
             ValueArgument::String(text) => Ok(toml::Value::String(String::from_str(alloc, text)?)),
-            ValueArgument::Text(name, text) => toml_value(alloc, matches, name, text.as_str()),
-            ValueArgument::FileName(text) => toml_value(alloc, matches, "JSON", text),
+            ValueArgument::Text(name, text) => toml_value(alloc, name, text.as_str(), is_lossy),
+            ValueArgument::FileName(text) => toml_value(alloc, "JSON", text, is_lossy),
         }
     }
 }
 
-/// Returns whether a file has this name, and the command has no file.
-fn is_file_name(rt: &HostRuntime, matches: &ArgMatches<'_>, argument: &str) -> bool {
-    if file_of(matches).is_some() {
-        return false;
-    }
-    match fs::metadata(rt, argument) {
+/// Returns whether a file has this name.
+fn is_file(rt: &HostRuntime, name: &str) -> bool {
+    match fs::metadata(rt, name) {
         Ok(found) => found.is_file(),
         Err(_) => false,
     }
@@ -152,29 +145,30 @@ fn string_value(alloc: Global, text: &str) -> Result<RawValue, ProgramError> {
 }
 
 /// Returns the JSON value of `--default`, whose numbers are printed anew. Fails if one loses digits,
-/// unless the flag `--lossy` is there.
+/// unless that is lossy.
 pub fn json_default(
     alloc: Global,
-    matches: &ArgMatches<'_>,
+    default: Option<&str>,
+    is_lossy: bool,
 ) -> Result<Option<Value>, ProgramError> {
-    let Some(text) = matches.get_str("default") else {
+    let Some(text) = default else {
         return Ok(None);
     };
     let value = value_in(alloc, DEFAULT, text.as_bytes())?;
-    if !is_lossy(matches) {
+    if !is_lossy {
         check_text(alloc, DEFAULT, text)?;
     }
     Ok(Some(value))
 }
 
-/// Returns the TOML value of `--default`. Fails if a number loses digits, unless the flag `--lossy` is
-/// there.
+/// Returns the TOML value of `--default`. Fails if a number loses digits, unless that is lossy.
 pub fn toml_default(
     alloc: Global,
-    matches: &ArgMatches<'_>,
+    default: Option<&str>,
+    is_lossy: bool,
 ) -> Result<Option<toml::Value>, ProgramError> {
-    match matches.get_str("default") {
-        Some(text) => Ok(Some(toml_value(alloc, matches, DEFAULT, text)?)),
+    match default {
+        Some(text) => Ok(Some(toml_value(alloc, DEFAULT, text, is_lossy)?)),
         None => Ok(None),
     }
 }
@@ -196,16 +190,16 @@ fn not_toml_value(alloc: Global, name: &str, text: &str) -> ProgramError {
 /// A number that loses digits is found as far as the text is JSON too.
 fn toml_value(
     alloc: Global,
-    matches: &ArgMatches<'_>,
     name: &str,
     text: &str,
+    is_lossy: bool,
 ) -> Result<toml::Value, ProgramError> {
     let value = match toml::Value::from_str(alloc, text) {
         Ok(value) => value,
         Err(error) if error.is_memory() => return Err(ProgramError::Memory),
         Err(_) => return Err(not_toml_value(alloc, name, text)),
     };
-    if !is_lossy(matches) {
+    if !is_lossy {
         check_text(alloc, name, text)?;
     }
     Ok(value)
