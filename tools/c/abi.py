@@ -17,6 +17,8 @@ from typing import NamedTuple
 HERE = os.path.dirname(os.path.abspath(__file__))
 TOP = os.path.dirname(os.path.dirname(HERE))
 HEADER = f"{HERE}/jsonptr.h"
+# What is for C++ alone, and no part of the binary interface.
+CPLUSPLUS = re.compile(r"^#if defined\(__cplusplus\).*?^#endif$", re.DOTALL | re.MULTILINE)
 COMMENT = re.compile(r"/\*.*?\*/", re.DOTALL)
 MACRO = re.compile(r"^#define (JSONPTR_\w+)(?: +(\S.*?))? *$", re.MULTILINE)
 DIRECTIVE = re.compile(r"^#.*$", re.MULTILINE)
@@ -69,7 +71,7 @@ def one_line(text):
 
 def declarations(text):
     """Returns the macros, structs, types and functions of a header. What is none of these is an error."""
-    code = COMMENT.sub(" ", text).replace("\\\n", " ")
+    code = CPLUSPLUS.sub("", COMMENT.sub(" ", text)).replace("\\\n", " ")
     macros = [(name, value or "") for name, value in MACRO.findall(code) if not NOT_LISTED.fullmatch(name)]
     code = one_line(MARK.sub(" ", DIRECTIVE.sub("", code)))
     found = [pattern.findall(code) for pattern in (STRUCT, TYPE, FUNCTION)]

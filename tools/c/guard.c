@@ -36,6 +36,24 @@ uint32_t jsonptrcore_document_patch_with_inverse(jsonptr_document *document, con
                                                  jsonptr_error *error);
 uint32_t jsonptrcore_document_diff(jsonptr_document *from, jsonptr_document *to, bool is_pretty, char *out,
                                    size_t capacity, size_t *length, jsonptr_error *error);
+uint32_t jsonptrcore_text_open(jsonptr_text *text, bool has_comments, const char *bytes, size_t bytes_length,
+                               jsonptr_error *error);
+void jsonptrcore_text_free(jsonptr_text *text);
+uint32_t jsonptrcore_text_assign(jsonptr_text *text, const char *pointer, size_t pointer_length, const char *value,
+                                 size_t value_length, bool may_reformat, jsonptr_change *change, jsonptr_error *error);
+uint32_t jsonptrcore_text_delete(jsonptr_text *text, const char *pointer, size_t pointer_length, bool may_reformat,
+                                 bool *found, jsonptr_change *change, jsonptr_error *error);
+uint32_t jsonptrcore_text_rename(jsonptr_text *text, const char *pointer, size_t pointer_length, const char *key,
+                                 size_t key_length, bool may_reformat, jsonptr_change *change, jsonptr_error *error);
+uint32_t jsonptrcore_text_patch(jsonptr_text *text, const char *patch, size_t patch_length, bool may_reformat,
+                                jsonptr_change *change, jsonptr_error *error);
+uint32_t jsonptrcore_text_remove_comments(jsonptr_text *text, jsonptr_error *error);
+uint32_t jsonptrcore_text_locate(jsonptr_text *text, const char *pointer, size_t pointer_length, size_t *start,
+                                 size_t *end, jsonptr_error *error);
+uint32_t jsonptrcore_text_pointer_at(jsonptr_text *text, size_t offset, char *out, size_t capacity, size_t *length,
+                                     jsonptr_error *error);
+uint32_t jsonptrcore_text_copy(jsonptr_text *text, size_t start, size_t end, char *out, size_t capacity, size_t *length,
+                               jsonptr_error *error);
 uint32_t jsonptrcore_resolve_in_text(const char *text, size_t text_length, const char *pointer, size_t pointer_length,
                                 bool is_pretty, char *out, size_t capacity, size_t *length, jsonptr_error *error);
 uint32_t jsonptrcore_lost_number_in_text(const char *text, size_t text_length, bool *found, char *out, size_t capacity,
@@ -59,6 +77,7 @@ static const char *start_of(const char *start) {
 /* What is written for an optional argument that is NULL, and where an empty buffer starts. */
 typedef struct unwanted {
     jsonptr_error error;
+    jsonptr_change change;
     size_t length, end;
     bool found;
     char buffer;
@@ -67,6 +86,11 @@ typedef struct unwanted {
 /* Whether no other flag is set than those of a call that prints. */
 static bool is_known(uint32_t flags) {
     return (flags & ~(JSONPTR_COMPACT | JSONPTR_PRETTY)) == 0;
+}
+
+/* Whether no other flag is set than that of a call that edits a text. */
+static bool is_edit(uint32_t flags) {
+    return (flags & ~JSONPTR_REFORMAT) == 0;
 }
 
 /* Reports a bad argument. */
@@ -267,6 +291,108 @@ jsonptr_status jsonptr_document_diff(const jsonptr_document *from, const jsonptr
     jsonptr_document copy = *from, other = *to;
     jsonptr_status status = jsonptrcore_document_diff(&copy, &other, flags & JSONPTR_PRETTY, OR(out, none.buffer),
         capacity, size, OR(error, none.error));
+    return ended(status, out, capacity, size);
+}
+
+jsonptr_status jsonptr_text_open(jsonptr_text *text, uint32_t format, const char *bytes, size_t bytes_length,
+                                 jsonptr_error *error) {
+    unwanted none;
+    if (text == NULL || (format != JSONPTR_FORMAT_JSON && format != JSONPTR_FORMAT_JSONC) ||
+        !is_slice(bytes, bytes_length)) {
+        return bad_argument(error);
+    }
+    return jsonptrcore_text_open(text, format == JSONPTR_FORMAT_JSONC, start_of(bytes), bytes_length,
+                                 OR(error, none.error));
+}
+
+void jsonptr_text_free(jsonptr_text *text) {
+    if (text != NULL) {
+        jsonptrcore_text_free(text);
+    }
+}
+
+jsonptr_status jsonptr_text_assign(jsonptr_text *text, const char *pointer, size_t pointer_length, const char *value,
+                                   size_t value_length, uint32_t flags, jsonptr_change *change, jsonptr_error *error) {
+    unwanted none;
+    if (text == NULL || !is_slice(pointer, pointer_length) || !is_slice(value, value_length) || !is_edit(flags)) {
+        return bad_argument(error);
+    }
+    return jsonptrcore_text_assign(text, start_of(pointer), pointer_length, start_of(value), value_length,
+                                   flags & JSONPTR_REFORMAT, OR(change, none.change), OR(error, none.error));
+}
+
+jsonptr_status jsonptr_text_delete(jsonptr_text *text, const char *pointer, size_t pointer_length, uint32_t flags,
+                                   bool *found, jsonptr_change *change, jsonptr_error *error) {
+    unwanted none;
+    if (text == NULL || !is_slice(pointer, pointer_length) || !is_edit(flags)) {
+        return bad_argument(error);
+    }
+    return jsonptrcore_text_delete(text, start_of(pointer), pointer_length, flags & JSONPTR_REFORMAT,
+                                   OR(found, none.found), OR(change, none.change), OR(error, none.error));
+}
+
+jsonptr_status jsonptr_text_rename(jsonptr_text *text, const char *pointer, size_t pointer_length, const char *key,
+                                   size_t key_length, uint32_t flags, jsonptr_change *change, jsonptr_error *error) {
+    unwanted none;
+    if (text == NULL || !is_slice(pointer, pointer_length) || !is_slice(key, key_length) || !is_edit(flags)) {
+        return bad_argument(error);
+    }
+    return jsonptrcore_text_rename(text, start_of(pointer), pointer_length, start_of(key), key_length,
+                                   flags & JSONPTR_REFORMAT, OR(change, none.change), OR(error, none.error));
+}
+
+jsonptr_status jsonptr_text_patch(jsonptr_text *text, const char *patch, size_t patch_length, uint32_t flags,
+                                  jsonptr_change *change, jsonptr_error *error) {
+    unwanted none;
+    if (text == NULL || !is_slice(patch, patch_length) || !is_edit(flags)) {
+        return bad_argument(error);
+    }
+    return jsonptrcore_text_patch(text, start_of(patch), patch_length, flags & JSONPTR_REFORMAT,
+                                  OR(change, none.change), OR(error, none.error));
+}
+
+jsonptr_status jsonptr_text_remove_comments(jsonptr_text *text, jsonptr_error *error) {
+    unwanted none;
+    if (text == NULL) {
+        return bad_argument(error);
+    }
+    return jsonptrcore_text_remove_comments(text, OR(error, none.error));
+}
+
+jsonptr_status jsonptr_text_locate(const jsonptr_text *text, const char *pointer, size_t pointer_length, size_t *start,
+                                   size_t *end, jsonptr_error *error) {
+    unwanted none;
+    if (text == NULL || !is_slice(pointer, pointer_length)) {
+        return bad_argument(error);
+    }
+    jsonptr_text copy = *text;
+    return jsonptrcore_text_locate(&copy, start_of(pointer), pointer_length, OR(start, none.length), OR(end, none.end),
+                                   OR(error, none.error));
+}
+
+jsonptr_status jsonptr_text_pointer_at(const jsonptr_text *text, size_t offset, char *out, size_t capacity,
+                                       size_t *length, jsonptr_error *error) {
+    unwanted none;
+    if (text == NULL || !is_slice(out, capacity)) {
+        return bad_argument(error);
+    }
+    size_t *size = OR(length, none.length);
+    jsonptr_text copy = *text;
+    jsonptr_status status = jsonptrcore_text_pointer_at(&copy, offset, OR(out, none.buffer), capacity, size,
+                                                        OR(error, none.error));
+    return ended(status, out, capacity, size);
+}
+
+jsonptr_status jsonptr_text_copy(const jsonptr_text *text, size_t start, size_t end, char *out, size_t capacity,
+                                 size_t *length, jsonptr_error *error) {
+    unwanted none;
+    if (text == NULL || !is_slice(out, capacity)) {
+        return bad_argument(error);
+    }
+    size_t *size = OR(length, none.length);
+    jsonptr_text copy = *text;
+    jsonptr_status status = jsonptrcore_text_copy(&copy, start, end, OR(out, none.buffer), capacity, size,
+                                                  OR(error, none.error));
     return ended(status, out, capacity, size);
 }
 

@@ -1,7 +1,8 @@
 /* jsonptr.h - JSON Pointers (RFC 6901) and JSON Patches (RFC 6902) for C.
  *
  * The library reads a JSON document into a handle. It finds, copies, assigns
- * and deletes the values that pointers identify, and applies patches.
+ * and deletes the values that pointers identify, and applies patches. It does so
+ * in texts too, which then keep their layout and their comments (jsonptr_text).
  *
  *     #include <jsonptr.h>
  *     #include <stdio.h>
@@ -42,7 +43,8 @@
  * Texts       A text is a pointer and a length in bytes. It needs no closing
  *             zero and is never written to. Texts are UTF-8. The empty text, as
  *             a pointer, is the whole document. A byte order mark at the start
- *             of a JSON text is JSONPTR_NOT_JSON at offset 0.
+ *             of a JSON text is JSONPTR_NOT_JSON at offset 0, except in
+ *             jsonptr_text_open.
  * Results     A result is copied to a buffer of the caller. If the buffer is
  *             longer, a zero follows the result, and the bytes after that are
  *             unspecified. A result can contain zeros itself. `*length` is set to
@@ -80,7 +82,8 @@
  * Threads     There are no globals. Two threads may use two documents at once.
  *             Any number of threads may read one at once, by the calls whose
  *             `document` is const: jsonptr_document_print, _get, _string, _node
- *             and _diff. A CALL THAT CHANGES OR FREES A DOCUMENT IS ALONE: no other
+ *             and _diff, and one text by those of which it
+ *             is const. A CALL THAT CHANGES OR FREES A DOCUMENT IS ALONE: no other
  *             call uses the document at that time, so take a lock around both.
  *             The calls on pointers, and those that end in _in_text, have no
  *             document, and need no lock. No call may be made in a signal handler,
@@ -169,7 +172,7 @@ typedef uint32_t jsonptr_status;
 #define JSONPTR_NO_MEMORY     1u  /* malloc or realloc returned NULL */
 #define JSONPTR_NO_ROOM       2u  /* the buffer is shorter than the result */
 #define JSONPTR_BAD_ARGUMENT  3u  /* NULL, a length that cannot be, an unknown flag, or one document passed twice */
-#define JSONPTR_NO_DOCUMENT   4u  /* the handle holds no document */
+#define JSONPTR_NO_DOCUMENT   4u  /* the handle holds no document, or no text */
 #define JSONPTR_NOT_UTF8      5u  /* a text is not UTF-8 */
 #define JSONPTR_NOT_JSON      6u  /* a text is not a JSON text */
 #define JSONPTR_NOT_POINTER   7u  /* a text is not a JSON Pointer */
@@ -179,10 +182,12 @@ typedef uint32_t jsonptr_status;
 #define JSONPTR_NOT_ASSIGNED 11u  /* the pointer leads to an array that has no such index */
 #define JSONPTR_NOT_PATCH    12u  /* the document is not a JSON Patch */
 #define JSONPTR_PATCH_FAILED 13u  /* an operation of the patch fails */
-#define JSONPTR_TOO_DEEP     14u  /* the document could nest deeper than 10,127 */
+#define JSONPTR_TOO_DEEP     14u  /* the document could nest deeper than 10,127, or a text deeper than 127 */
 #define JSONPTR_NOT_EXACT    15u  /* a number of a text loses digits */
 #define JSONPTR_NOT_LOCATED  16u  /* the value is in the text, but its bytes are not found */
 #define JSONPTR_NO_VALUE     17u  /* no value of the text is at the offset */
+#define JSONPTR_NOT_IN_PLACE 18u  /* the edit is possible, but not in place */
+#define JSONPTR_NOT_RENAMED  21u  /* the member cannot be renamed so */
 
 /* ---- Errors ------------------------------------------------------------ */
 
@@ -211,6 +216,14 @@ typedef uint32_t jsonptr_status;
 #define JSONPTR_KIND_UNKNOWN_OP        16u  /* `op` is not the name of an operation */
 /* JSONPTR_TOO_DEEP of jsonptr_document_patch_with_inverse */
 #define JSONPTR_KIND_INVERSE_TOO_DEEP  17u  /* the text that takes the patch back would nest deeper than 127 */
+/* JSONPTR_NOT_JSON of jsonptr_text_open */
+#define JSONPTR_KIND_OPEN_COMMENT      18u  /* a block comment is not closed */
+/* JSONPTR_TOO_DEEP of jsonptr_text_assign and jsonptr_text_patch */
+#define JSONPTR_KIND_TEXT_TOO_DEEP     19u  /* the text would nest deeper than 127 */
+/* JSONPTR_NOT_RENAMED */
+#define JSONPTR_KIND_NOTHING_THERE     20u  /* the pointer resolves to nothing */
+#define JSONPTR_KIND_NOT_A_MEMBER      21u  /* it resolves to the root, or to an element of an array */
+#define JSONPTR_KIND_KEY_TAKEN         22u  /* another member of the object has the key */
 
 /* A member of an operation, or an argument of the call: jsonptr_error.member. */
 #define JSONPTR_MEMBER_NONE      0u
@@ -219,8 +232,8 @@ typedef uint32_t jsonptr_status;
 #define JSONPTR_MEMBER_FROM      3u
 #define JSONPTR_MEMBER_VALUE     4u
 #define JSONPTR_ARGUMENT_POINTER 5u  /* JSONPTR_NOT_UTF8: the pointer of the call is not UTF-8 */
-#define JSONPTR_ARGUMENT_TOKEN   6u  /* the token */
-#define JSONPTR_ARGUMENT_TEXT    7u  /* the JSON text */
+#define JSONPTR_ARGUMENT_TOKEN   6u  /* the token, or the key of jsonptr_text_rename */
+#define JSONPTR_ARGUMENT_TEXT    7u  /* the JSON text, or that of the value or the patch */
 
 /* The error of a call. A call that succeeds sets all fields to 0. Each error
  * sets `status`, and the fields in this table; the others are 0.
@@ -229,6 +242,7 @@ typedef uint32_t jsonptr_status;
  *     NO_ROOM       0                             length, which is needed
  *     NOT_UTF8      0                             member, offset
  *     NOT_JSON      0                             offset
+ *                   OPEN_COMMENT                  kind, offset
  *     NOT_POINTER   NO_LEADING_SLASH              kind; the fault is at offset 0
  *                   BAD_ESCAPE                    kind, position, slash, offset, length
  *     NOT_FOUND     NOT_AN_INDEX, OUT_OF_BOUNDS,
@@ -244,7 +258,10 @@ typedef uint32_t jsonptr_status;
  *                   NOT_ASSIGNED                  offset
  *                   MOVE_INTO_SELF, TEST_FLOAT,
  *                   TEST_FAILED                   kind, operation
- *     TOO_DEEP      0, INVERSE_TOO_DEEP           kind
+ *     TOO_DEEP      0, INVERSE_TOO_DEEP,
+ *                   TEXT_TOO_DEEP                 kind
+ *     NOT_RENAMED   NOTHING_THERE, NOT_A_MEMBER,
+ *                   KEY_TAKEN                     kind
  *     NOT_EXACT     0                             offset, length
  *     NO_VALUE      0                             offset, which was passed
  *     others        0                             none
@@ -638,6 +655,201 @@ jsonptr_status jsonptr_document_diff(const jsonptr_document *from, const jsonptr
                                      char *out, size_t capacity, size_t *length,
                                      jsonptr_error *error);
 
+/* ---- Texts that keep their layout -------------------------------------- */
+
+/* A handle: a text that is edited in place, or none. Its fields are for the library
+ * alone. What the header says of jsonptr_document is true of it: of JSONPTR_TEXT_INIT,
+ * of copies, and of threads, where jsonptr_text_copy, _locate and _pointer_at read.
+ *
+ *     jsonptr_text text = JSONPTR_TEXT_INIT;
+ *     status = jsonptr_text_open(&text, JSONPTR_FORMAT_JSONC, bytes, length, &error);
+ *     if (status == JSONPTR_OK)
+ *         status = jsonptr_text_assign(&text, "/size", 5, "4.0", 3, 0, NULL, &error);
+ *     if (status == JSONPTR_OK)
+ *         status = jsonptr_text_copy(&text, 0, SIZE_MAX, out, capacity, &length, &error);
+ *     jsonptr_text_free(&text);
+ *
+ * An edit in place changes the bytes of one value, member or element, and a patch
+ * those of one for each operation, with white space and a comma beside it. Every
+ * other byte stays: comments, white space, the order of members, the digits of
+ * numbers. A value that is put there keeps its own digits, escapes and order. A text
+ * of one line stays one line.
+ *
+ * An error, also JSONPTR_NO_MEMORY, leaves the text. An edit is made once, so there
+ * is no call to repeat. */
+typedef struct jsonptr_text {
+    void *private_address;
+    bool private_is_full;
+} jsonptr_text;
+
+#define JSONPTR_TEXT_INIT { NULL, false }
+
+/* The format of a text. Any other number is JSONPTR_BAD_ARGUMENT. */
+#define JSONPTR_FORMAT_JSON  0u  /* JSON */
+#define JSONPTR_FORMAT_JSONC 1u  /* JSON with comments and trailing commas, as in settings.json */
+
+/* Flags of an edit. Any other bit is JSONPTR_BAD_ARGUMENT. */
+#define JSONPTR_REFORMAT 8u  /* an edit that cannot be made in place prints the document anew */
+
+/* Which bytes an edit replaced: in the old text those from `start` up to `old_end`, by
+ * those of the new text from `start` up to `new_end`. All other bytes are the same in
+ * both texts. The bytes are those between the longest common start and the longest
+ * common end of both texts, without parts of characters. */
+typedef struct jsonptr_change {
+    size_t start;
+    size_t old_end;
+    size_t new_end;
+    bool is_reformatted; /* the document is printed anew, without comments: only with JSONPTR_REFORMAT */
+    uint64_t reserved;   /* 0: a later version may use it */
+} jsonptr_change;
+
+/* Opens a text in a handle, which owns a copy of it. A text that it holds is freed.
+ * A byte order mark is read past, and stays.
+ *
+ * Returns   JSONPTR_OK, JSONPTR_NOT_UTF8 with offset, JSONPTR_NOT_JSON with offset,
+ *           and with kind if a block comment is not closed, JSONPTR_NO_MEMORY.
+ *           An error leaves the handle.
+ * error     may be NULL.
+ * Cost      linear in the text, and in one that is freed. */
+JSONPTR_API JSONPTR_NODISCARD
+jsonptr_status jsonptr_text_open(jsonptr_text *text, uint32_t format,
+                                 const char *bytes, size_t bytes_length,
+                                 jsonptr_error *error);
+
+/* Frees the text of a handle, which is empty afterwards and can be used again. An
+ * empty handle, and NULL, are left as they are. */
+JSONPTR_API void jsonptr_text_free(jsonptr_text *text);
+
+/* Assigns the value of a JSON text at the location of a pointer, as
+ * jsonptr_document_assign does. The value is plain JSON: it has no comments. A new
+ * member or element comes after the last one, with the white space of the others.
+ *
+ *     /1 := 4.0      in [3, 5, ] // px      makes [3, 4.0, ] // px
+ *
+ * flags     0 or JSONPTR_REFORMAT.
+ * change    may be NULL: which bytes are replaced. So may `error`.
+ * Returns   JSONPTR_OK, JSONPTR_NOT_UTF8 with offset and JSONPTR_NOT_JSON with offset
+ *           for the value, JSONPTR_NO_DOCUMENT,
+ *           those of jsonptr_pointer_count for the pointer,
+ *           JSONPTR_NOT_ASSIGNED with kind, position, slash, offset and length,
+ *           JSONPTR_TOO_DEEP with kind if the text would nest deeper than 127,
+ *           JSONPTR_NOT_IN_PLACE without JSONPTR_REFORMAT, JSONPTR_NO_MEMORY.
+ *           An error leaves the text and `*change`.
+ * Cost      linear in the text and in the value: the text is read up to five times. */
+JSONPTR_API JSONPTR_NODISCARD
+jsonptr_status jsonptr_text_assign(jsonptr_text *text,
+                                   const char *pointer, size_t pointer_length,
+                                   const char *value, size_t value_length,
+                                   uint32_t flags,
+                                   jsonptr_change *change, jsonptr_error *error);
+
+/* Deletes the value that a pointer resolves to, with its comma. If there is none, the
+ * text is unchanged, and that is no error. Deleting "" leaves null. Of members with
+ * the same key each is deleted.
+ *
+ * flags     0 or JSONPTR_REFORMAT.
+ * found     may be NULL: whether there was a value.
+ * change    may be NULL: which bytes are removed, if there was a value. Else it is
+ *           left. So may `error`.
+ * Returns   JSONPTR_OK, JSONPTR_NO_DOCUMENT, those of jsonptr_pointer_count,
+ *           JSONPTR_NOT_IN_PLACE without JSONPTR_REFORMAT, JSONPTR_NO_MEMORY.
+ *           An error leaves the text, `*found` and `*change`.
+ * Cost      linear in the text. */
+JSONPTR_API JSONPTR_NODISCARD
+jsonptr_status jsonptr_text_delete(jsonptr_text *text,
+                                   const char *pointer, size_t pointer_length,
+                                   uint32_t flags,
+                                   bool *found, jsonptr_change *change, jsonptr_error *error);
+
+/* Renames the member of an object that a pointer resolves to: it keeps its place
+ * among the others, its value and its white space. The key is not escaped. A member
+ * that has the key already is left as it is.
+ *
+ * flags     0 or JSONPTR_REFORMAT.
+ * change    may be NULL, and so may `error`.
+ * Returns   JSONPTR_OK, JSONPTR_NOT_UTF8 with offset for the key, JSONPTR_NO_DOCUMENT,
+ *           those of jsonptr_pointer_count, JSONPTR_NOT_RENAMED with kind,
+ *           JSONPTR_NOT_IN_PLACE without JSONPTR_REFORMAT, JSONPTR_NO_MEMORY.
+ *           An error leaves the text and `*change`.
+ * Cost      linear in the text. */
+JSONPTR_API JSONPTR_NODISCARD
+jsonptr_status jsonptr_text_rename(jsonptr_text *text,
+                                   const char *pointer, size_t pointer_length,
+                                   const char *key, size_t key_length,
+                                   uint32_t flags,
+                                   jsonptr_change *change, jsonptr_error *error);
+
+/* Applies a patch document (RFC 6902), all of it or nothing. The patch is plain JSON.
+ * Its values keep their digits, their escapes and the order of their members. A
+ * "test" compares as that of jsonptr_document_patch.
+ *
+ * flags     0 or JSONPTR_REFORMAT.
+ * change    may be NULL: the bytes from the first to the last that are replaced. So
+ *           may `error`.
+ * Returns   JSONPTR_OK, JSONPTR_NOT_UTF8 with offset, JSONPTR_NOT_JSON with offset,
+ *           JSONPTR_NOT_PATCH as jsonptr_document_patch, JSONPTR_NOT_LOCATED if the
+ *           text of a value is not found in the patch, for which no text is known,
+ *           JSONPTR_NO_DOCUMENT, JSONPTR_PATCH_FAILED as jsonptr_document_patch,
+ *           JSONPTR_TOO_DEEP with kind if the text would nest deeper than 127,
+ *           JSONPTR_NOT_IN_PLACE without JSONPTR_REFORMAT, JSONPTR_NO_MEMORY.
+ *           An error leaves the text and `*change`.
+ * Cost      linear in the text for each operation. */
+JSONPTR_API JSONPTR_NODISCARD
+jsonptr_status jsonptr_text_patch(jsonptr_text *text,
+                                  const char *patch, size_t patch_length,
+                                  uint32_t flags,
+                                  jsonptr_change *change, jsonptr_error *error);
+
+/* Replaces comments and trailing commas by spaces. The format is then
+ * JSONPTR_FORMAT_JSON, and each offset is as before.
+ *
+ * Returns   JSONPTR_OK, JSONPTR_NO_DOCUMENT, JSONPTR_NO_MEMORY. An error leaves the
+ *           text.
+ * error     may be NULL.
+ * Cost      linear in the text. */
+JSONPTR_API JSONPTR_NODISCARD
+jsonptr_status jsonptr_text_remove_comments(jsonptr_text *text, jsonptr_error *error);
+
+/* Says where the value that a pointer resolves to is in a text, as
+ * jsonptr_locate_in_text does: from the offset of its first byte to the offset after
+ * its last one. The bytes are the value as it is written, with the comments in it.
+ *
+ * start     may be NULL, and so may `end` and `error`.
+ * Returns   JSONPTR_OK, JSONPTR_NO_DOCUMENT, those of jsonptr_pointer_count,
+ *           JSONPTR_NOT_FOUND with kind, position, slash, offset and length,
+ *           JSONPTR_NOT_LOCATED as jsonptr_locate_in_text, JSONPTR_NO_MEMORY.
+ *           An error leaves `*start` and `*end`.
+ * Cost      linear in the text. */
+JSONPTR_API JSONPTR_NODISCARD
+jsonptr_status jsonptr_text_locate(const jsonptr_text *text,
+                                   const char *pointer, size_t pointer_length,
+                                   size_t *start, size_t *end,
+                                   jsonptr_error *error);
+
+/* Copies the pointer of the innermost value at an offset of a text, as
+ * jsonptr_pointer_at_in_text does. A comment is of the value around it.
+ *
+ * Returns   JSONPTR_OK, JSONPTR_NO_DOCUMENT, JSONPTR_NOT_LOCATED as
+ *           jsonptr_locate_in_text of "", JSONPTR_NO_VALUE with offset,
+ *           JSONPTR_NO_ROOM, JSONPTR_NO_MEMORY.
+ * length    may be NULL, and so may `error`.
+ * Cost      linear in the text. */
+JSONPTR_API JSONPTR_NODISCARD
+jsonptr_status jsonptr_text_pointer_at(const jsonptr_text *text, size_t offset,
+                                       char *out, size_t capacity, size_t *length,
+                                       jsonptr_error *error);
+
+/* Copies the bytes of a text from the offset `start` up to `end`, as far as it has
+ * them. All of it is from 0 to SIZE_MAX, with its byte order mark.
+ *
+ * Returns   JSONPTR_OK, JSONPTR_NO_DOCUMENT, JSONPTR_NO_ROOM.
+ * length    may be NULL, and so may `error`.
+ * Cost      linear in the bytes that are copied. Allocates nothing. */
+JSONPTR_API JSONPTR_NODISCARD
+jsonptr_status jsonptr_text_copy(const jsonptr_text *text, size_t start, size_t end,
+                                 char *out, size_t capacity, size_t *length,
+                                 jsonptr_error *error);
+
 /* ---- Without a document ------------------------------------------------ */
 
 /* Copies the JSON text of the value that a pointer resolves to in a JSON text,
@@ -730,6 +942,35 @@ jsonptr_status jsonptr_pointer_at_in_text(const char *text, size_t text_length,
 JSONPTR_API const char *jsonptr_version(void);
 
 #ifdef __cplusplus
+}
+#endif
+
+#if defined(__cplusplus) && __cplusplus >= 201103L
+/* For C++: a handle that is freed with its variable. It moves, and cannot be copied.
+ *
+ *     jsonptr::text text;
+ *     jsonptr_status status = jsonptr_text_open(text.handle(), JSONPTR_FORMAT_JSON, bytes, length, &error); */
+namespace jsonptr {
+template <typename Handle, void (*Free)(Handle *)> class owner {
+public:
+    owner() noexcept : held() {}
+    owner(owner &&other) noexcept : held(other.held) { other.held = Handle(); }
+    owner &operator=(owner &&other) noexcept {
+        Handle taken = other.held;
+        other.held = Handle();
+        Free(&held);
+        held = taken;
+        return *this;
+    }
+    ~owner() { Free(&held); }
+    Handle *handle() noexcept { return &held; }
+    const Handle *handle() const noexcept { return &held; }
+
+private:
+    Handle held;
+};
+using document = owner<jsonptr_document, jsonptr_document_free>;
+using text = owner<jsonptr_text, jsonptr_text_free>;
 }
 #endif
 #endif

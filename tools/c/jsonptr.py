@@ -50,19 +50,22 @@ environment variable JSONPTR_LIBRARY names another file. The import fails with `
 of another version. Threads may share a `Document`, which has a lock; the lock of Python is free while the library works. In
 a process that was forked while another thread was in a call on a document, each call on it raises `RuntimeError`.
 """
+import contextlib
 import copy
 import ctypes
 import json
 import operator
 import os
 import sys
+import tempfile
 import threading
-from typing import (Any, Callable, Dict, Iterator, List, Mapping, NamedTuple, NoReturn, Optional, Sequence, SupportsIndex, Tuple,
-                    Type, Union)
+from typing import (Any, AnyStr, Callable, Dict, Generic, Iterator, List, Mapping, NamedTuple, NoReturn, Optional, Sequence,
+                    SupportsIndex, Tuple, Type, Union)
 
-__all__ = ["Document", "JsonPatchError", "JsonPointerError", "JsonptrError", "NotAssigned", "NotExact", "NotFound", "NotJson",
-           "NotPointer", "Patch", "Span", "TooDeep", "escape", "locate", "lost_number", "make_patch", "pointer_at", "resolve",
-           "resolve_in_text", "tokens", "version"]
+__all__ = ["Change", "Document", "Editor", "JsonPatchError", "JsonPointerError", "JsonptrError", "NotAssigned", "NotExact",
+           "NotFound", "NotInPlace", "NotJson", "NotPointer", "NotRenamed", "Patch", "Raw", "Span", "TooDeep", "apply_patch",
+           "edit", "escape", "locate", "lost_number", "make_patch", "pointer_at", "resolve", "resolve_in_text",
+           "resolve_pointer", "set_pointer", "tokens", "version"]
 
 __version__ = "0.4.0-dev"
 
@@ -70,7 +73,8 @@ Text = Union[str, bytes, bytearray, memoryview]
 JSON = Union[None, bool, int, float, str, Sequence["JSON"], Mapping[str, "JSON"]]
 
 OK, NO_MEMORY, NO_ROOM, BAD_ARGUMENT, NO_DOCUMENT, NOT_UTF8, NOT_JSON, NOT_POINTER, NO_TOKEN, NOT_FOUND, OTHER_TYPE, \
-    NOT_ASSIGNED, NOT_PATCH, PATCH_FAILED, TOO_DEEP, NOT_EXACT, NOT_LOCATED, NO_VALUE = range(18)
+    NOT_ASSIGNED, NOT_PATCH, PATCH_FAILED, TOO_DEEP, NOT_EXACT, NOT_LOCATED, NO_VALUE, NOT_IN_PLACE = range(19)
+NOT_RENAMED = 21
 MEMBERS = [None, "op", "path", "from", "value", "pointer", "token", "text"]
 
 
@@ -97,6 +101,11 @@ def _library() -> ctypes.CDLL:
 
 class _Handle(ctypes.Structure):
     _fields_ = [("address", ctypes.c_void_p), ("is_full", ctypes.c_bool)]
+
+
+class _Change(ctypes.Structure):
+    _fields_ = [("start", ctypes.c_size_t), ("old_end", ctypes.c_size_t), ("new_end", ctypes.c_size_t),
+                ("is_reformatted", ctypes.c_bool), ("reserved", ctypes.c_uint64)]
 
 
 class _Error(ctypes.Structure):
@@ -128,6 +137,11 @@ _locate, _pointer_at = _function("locate_in_text"), _function("pointer_at_in_tex
 _assign, _delete, _patch = _function("document_assign"), _function("document_delete"), _function("document_patch")
 _patch_with_inverse = _function("document_patch_with_inverse")
 _diff, _free = _function("document_diff"), _function("document_free", None)
+_text_open, _text_copy, _text_free = _function("text_open"), _function("text_copy"), _function("text_free", None)
+_text_assign, _text_delete = _function("text_assign"), _function("text_delete")
+_text_rename, _text_patch = _function("text_rename"), _function("text_patch")
+_text_locate, _text_pointer_at = _function("text_locate"), _function("text_pointer_at")
+_text_remove_comments = _function("text_remove_comments")
 _count, _escape = _function("pointer_count"), _function("pointer_escape")
 _error_message, _version = _function("error_message"), _function("version", ctypes.c_char_p)
 _size, _at = ctypes.c_size_t, ctypes.byref
@@ -162,6 +176,9 @@ class JsonptrError(ValueError):
         super().__init__(message)
         self.__dict__.update(fields)
 
+    def __str__(self) -> str:
+        return Exception.__str__(self)  # and not that of KeyError, which quotes
+
     def __reduce__(self) -> Tuple[Any, ...]:
         return type(self), self.args, dict(self.__dict__)
 
@@ -181,8 +198,16 @@ class NotAssigned(JsonptrError):
     """The pointer leads to an array that has no such index."""
 
 
-class NotFound(JsonptrError, LookupError):
+class NotFound(JsonptrError, KeyError):
     """The pointer does not resolve to a value, or no value is at the offset."""
+
+
+class NotInPlace(JsonptrError):
+    """An edit of a text is possible, but not in place."""
+
+
+class NotRenamed(JsonptrError):
+    """The pointer resolves to no member of an object, or another member has the key."""
 
 
 class JsonPatchError(JsonptrError):
@@ -190,7 +215,7 @@ class JsonPatchError(JsonptrError):
 
 
 class TooDeep(JsonptrError):
-    """The document could nest deeper than 10,127 levels, or the patch that takes a patch back deeper than 127."""
+    """The document could nest deeper than 10,127 levels, or a text, or the patch that takes a patch back, deeper than 127."""
 
 
 class NotExact(JsonptrError):
@@ -205,7 +230,8 @@ class NotExact(JsonptrError):
 
 _CLASSES: Dict[int, Type[JsonptrError]] = {
     NOT_JSON: NotJson, NOT_POINTER: NotPointer, NOT_FOUND: NotFound, NO_VALUE: NotFound, NOT_ASSIGNED: NotAssigned,
-    NOT_PATCH: JsonPatchError, PATCH_FAILED: JsonPatchError, TOO_DEEP: TooDeep, NOT_EXACT: NotExact}
+    NOT_PATCH: JsonPatchError, PATCH_FAILED: JsonPatchError, TOO_DEEP: TooDeep, NOT_EXACT: NotExact,
+    NOT_IN_PLACE: NotInPlace, NOT_RENAMED: NotRenamed}
 
 
 def _fail(status: int, error: _Error) -> NoReturn:
@@ -471,7 +497,26 @@ if hasattr(os, "register_at_fork"):
     os.register_at_fork(after_in_child=_count_fork)
 
 
-class Document:
+class _Locked:
+    """What has a lock, which a fork may leave locked."""
+
+    _lock: threading.Lock
+    _forks: int
+
+    def _held(self) -> threading.Lock:
+        """Returns the lock. Raises `RuntimeError` if no thread of this process can release it."""
+        if self._forks != _forks:
+            if self._lock.locked():
+                raise RuntimeError("another thread was in a call on this object when the process was forked")
+            self._forks = _forks
+        return self._lock
+
+    def _is_lost(self) -> bool:
+        """Returns whether another thread was changing what this owns when the process was forked, so that it cannot be freed."""
+        return self._forks != _forks and self._lock.locked()
+
+
+class Document(_Locked):
     """A JSON document in the memory of the library.
 
     It is made of JSON text, as `str` or bytes, and `Document.of` makes it of a Python value. A number that loses digits is
@@ -501,14 +546,6 @@ class Document:
     def of(cls, value: JSON, *, lossy: bool = False) -> "Document":
         """Returns the document of a Python value. A number that loses digits is the error `NotExact`, unless `lossy`."""
         return cls(_json(value, lossy), lossy=True)
-
-    def _held(self) -> threading.Lock:
-        """Returns the lock. Raises `RuntimeError` if no thread of this process can release it."""
-        if self._forks != _forks:
-            if self._lock.locked():
-                raise RuntimeError("another thread was in a call on this document when the process was forked")
-            self._forks = _forks
-        return self._lock
 
     def _call(self, call: Any, *arguments: Any) -> None:
         """Calls a function on the document that returns no text."""
@@ -603,8 +640,7 @@ class Document:
         return _remade, (type(self), self.text(), self._others())
 
     def __del__(self, _free: Any = _free) -> None:
-        # After a fork a document that another thread was changing cannot be freed.
-        if hasattr(self, "_at") and not (self._forks != _forks and self._lock.locked()):
+        if hasattr(self, "_at") and not self._is_lost():
             _free(self._at)
 
 
@@ -717,3 +753,454 @@ def make_patch(old: Union[Document, JSON], new: Union[Document, JSON], *, lossy:
     with first._held(), second._held():
         buffer = _Buffer(old._length + new._length + 512)
         return Patch(buffer.fill(_diff, old._at, new._at, _COMPACT))
+
+
+class Raw:
+    """The JSON text of a value, which is put into a text as it is written: with its digits, its escapes and the order of members.
+
+        >>> editor = Editor('{"price": 1.10}')
+        >>> editor.assign("/price", Raw("2.50"))
+        Change(start=10, old_end=13, new_end=13, reformatted=False)
+        >>> editor.text
+        '{"price": 2.50}'
+    """
+
+    __slots__ = ("text",)
+    text: str
+
+    def __init__(self, text: Text) -> None:
+        data = _bytes(text)
+        try:
+            object.__setattr__(self, "text", data.decode())
+        except UnicodeDecodeError as error:
+            raise JsonptrError("text is not UTF-8", status=NOT_UTF8, offset=error.start, member="text") from None
+
+    def __setattr__(self, name: str, value: object) -> NoReturn:
+        raise AttributeError(f"a Raw has no other {name}")
+
+    def __eq__(self, other: object) -> bool:
+        if not isinstance(other, Raw):
+            return NotImplemented
+        return self.text == other.text
+
+    def __hash__(self) -> int:
+        return hash((Raw, self.text))
+
+    def __repr__(self) -> str:
+        return f"Raw({self.text!r})"
+
+    def __reduce__(self) -> Tuple[Any, ...]:
+        return Raw, (self.text,)
+
+
+class Change(NamedTuple):
+    """What an edit replaced: `old[start:old_end]` by `new[start:new_end]`, of a `str` in characters and of bytes in bytes.
+
+    All else is the same in both texts. `reformatted` says that the document was printed anew.
+    """
+
+    start: int
+    old_end: int
+    new_end: int
+    reformatted: bool
+
+
+# The formats of a text, and their numbers in jsonptr.h.
+_FORMATS = {"json": 0, "jsonc": 1}
+_NO_FLAG, _REFORMAT = ctypes.c_uint32(0), ctypes.c_uint32(8)
+_ALL = _size(2 ** 64 - 1)
+
+
+class Editor(_Locked, Generic[AnyStr]):
+    """A text that is edited in place: a JSON text, or with `format="jsonc"` one with comments and trailing commas.
+
+        >>> editor = Editor('{\\n  "size": 3, // px\\n}\\n', "jsonc")
+        >>> editor.assign("/size", 4)
+        Change(start=12, old_end=13, new_end=13, reformatted=False)
+        >>> editor["/name"] = "app"
+        >>> print(editor.text, end="")
+        {
+          "size": 4, // px
+          "name": "app",
+        }
+        >>> editor.get("/name"), editor["/size"], "/none" in editor
+        ('"app"', 4, False)
+
+    Of a `str` the text is a `str`, and offsets count characters; of `bytes` it is `bytes`, and they count bytes. Only the bytes
+    of the value that changes are others afterwards: comments, white space, the order of members and the digits of all numbers
+    stay. An edit that is possible, but not in place, is the error `NotInPlace`; with `reformat` it prints the document anew,
+    without comments. An error leaves the text. A byte order mark is read past, and stays.
+
+    Threads may share an editor, as a `Document`. A copy, and one that was pickled, is made of the text.
+    """
+
+    def __init__(self, text: AnyStr, format: str = "json", *, reformat: bool = False) -> None:
+        if format not in _FORMATS:
+            raise ValueError(f"the format is one of {', '.join(_FORMATS)}, and not {format!r}")
+        data, error = _bytes(text), _Error()
+        if not hasattr(self, "_at"):
+            self._handle, self._lock, self._forks = _Handle(), threading.Lock(), _forks
+            self._at = _at(self._handle)
+        with self._held():
+            status = _text_open(self._at, ctypes.c_uint32(_FORMATS[format]), data, _size(len(data)), _at(error))
+            if status:
+                _fail(status, error)
+            self._data, self._is_str, self._format, self.reformat = data, isinstance(text, str), format, reformat
+
+    @property
+    def format(self) -> str:
+        """The format of the text."""
+        return self._format
+
+    @property
+    def text(self) -> AnyStr:
+        """The text."""
+        return self._as_given(self._data)
+
+    def _as_given(self, data: bytes) -> AnyStr:
+        """Returns a part of the text as it was given: a `str` or `bytes`."""
+        return data.decode() if self._is_str else data  # type: ignore[return-value]
+
+    def _count(self, data: bytes, offset: int) -> int:
+        """Returns the offset in a text in characters, if these are counted."""
+        return len(data[:offset].decode()) if self._is_str and not data.isascii() else offset
+
+    def _edit(self, call: Any, *arguments: Any) -> Change:
+        """Calls a function that edits the text, and returns what it changed."""
+        change, error = _Change(), _Error()
+        with self._held():
+            old = self._data
+            status = call(self._at, *arguments, _REFORMAT if self.reformat else _NO_FLAG, _at(change), _at(error))
+            if status:
+                _fail(status, error)
+            self._replace(change)
+            new = self._data
+        return Change(self._count(old, change.start), self._count(old, change.old_end), self._count(new, change.new_end),
+                      bool(change.is_reformatted))
+
+    def _replace(self, change: _Change) -> None:
+        """Makes the change of the library's text in this one."""
+        length = change.new_end - change.start
+        put = _Buffer(length + 1).fill(_text_copy, self._at, _size(change.start), _size(change.new_end)) if length else b""
+        self._data = self._data[:change.start] + put + self._data[change.old_end:]
+
+    def assign(self, pointer: Text, value: Union[JSON, Raw]) -> Change:
+        """Assigns a Python value or a `Raw` at the pointer, and creates what is missing on the way."""
+        text = _bytes(value.text) if isinstance(value, Raw) else _json(value, lossy=True)
+        return self._edit(_text_assign, *_text(pointer), *_text(text))
+
+    def delete(self, pointer: Text) -> bool:
+        """Deletes the value that the pointer resolves to, and returns whether there was one. "" leaves null."""
+        found, change, error = ctypes.c_bool(), _Change(), _Error()
+        with self._held():
+            flags = _REFORMAT if self.reformat else _NO_FLAG
+            status = _text_delete(self._at, *_text(pointer), flags, _at(found), _at(change), _at(error))
+            if status:
+                _fail(status, error)
+            if found.value:
+                self._replace(change)
+        return bool(found.value)
+
+    def rename(self, pointer: Text, key: Text) -> Change:
+        """Renames the member of an object that the pointer resolves to: it keeps its place, its value and its white space."""
+        return self._edit(_text_rename, *_text(pointer), *_text(key))
+
+    def apply(self, patch: Union[Patch, Text, Sequence[Mapping[str, JSON]]]) -> Change:
+        """Applies a patch, all of it or nothing: a `Patch`, JSON text, or a list of operations.
+
+        A value of a patch that is a text keeps its digits, its escapes and the order of its members.
+        """
+        return self._edit(_text_patch, *_text((patch if isinstance(patch, Patch) else Patch(patch)).text))
+
+    def remove_comments(self) -> None:
+        """Replaces comments and trailing commas by spaces. The format is then "json"."""
+        error = _Error()
+        with self._held():
+            status = _text_remove_comments(self._at, _at(error))
+            if status:
+                _fail(status, error)
+            self._data = _Buffer(len(self._data) + 1).fill(_text_copy, self._at, _size(0), _ALL)
+            self._format = "json"
+
+    def _located(self, pointer: Text) -> Span:
+        """Returns where the value that the pointer resolves to is, in bytes. The lock is held."""
+        start, end, error = _size(), _size(), _Error()
+        status = _text_locate(self._at, *_text(pointer), _at(start), _at(end), _at(error))
+        if status:
+            _fail(status, error)
+        return Span(start.value, end.value)
+
+    def locate(self, pointer: Text) -> Span:
+        """Returns where the value that the pointer resolves to is: `text[start:end]` is the value as it is written."""
+        with self._held():
+            span, data = self._located(pointer), self._data
+        return Span(self._count(data, span.start), self._count(data, span.end))
+
+    def get(self, pointer: Text = "") -> AnyStr:
+        """Returns the value that the pointer resolves to as it is written, with the comments in it."""
+        with self._held():
+            span, data = self._located(pointer), self._data
+        return self._as_given(data[span.start:span.end])
+
+    def value(self, pointer: Text = "") -> Any:
+        """Returns the Python value that the pointer resolves to. An integer has all its digits, and a float is the nearest one."""
+        text = _bytes(self.get(pointer))
+        if self._format == "jsonc":
+            bare = Editor(text, "jsonc")
+            bare.remove_comments()
+            text = bare.text
+        return _value(text)
+
+    def pointer_at(self, offset: SupportsIndex) -> str:
+        """Returns the pointer of the innermost value that contains the character or byte at the offset."""
+        at = operator.index(offset)
+        absent = NotFound(f"no value is at offset {at}", status=NO_VALUE, offset=at)
+        if not 0 <= at <= sys.maxsize:
+            raise absent
+        with self._held():
+            data = self._data
+            at_byte = len(data.decode()[:at].encode()) if self._is_str and not data.isascii() else min(at, len(data))
+            try:
+                return _Buffer(min(len(data) + 1, _MOST_KEPT)).fill(_text_pointer_at, self._at, _size(at_byte)).decode()
+            except NotFound:
+                raise absent from None
+
+    def __getitem__(self, pointer: Text) -> Any:
+        return self.value(pointer)
+
+    def __setitem__(self, pointer: Text, value: Union[JSON, Raw]) -> None:
+        self.assign(pointer, value)
+
+    def __delitem__(self, pointer: Text) -> None:
+        if not self.delete(pointer):
+            self.locate(pointer)  # which raises NotFound
+
+    def __contains__(self, pointer: Text) -> bool:
+        try:
+            self.locate(pointer)
+        except NotFound:
+            return False
+        return True
+
+    __iter__ = None  # pointers are no sequence
+
+    def __str__(self) -> str:
+        return self._data.decode()
+
+    def __bytes__(self) -> bytes:
+        return self._data
+
+    def __repr__(self) -> str:
+        return f"Editor({self.text!r}, {self._format!r})"
+
+    def __eq__(self, other: object) -> bool:
+        if not isinstance(other, Editor):
+            return NotImplemented
+        return (self._data, self._is_str, self._format) == (other._data, other._is_str, other._format)
+
+    __hash__ = None  # type: ignore[assignment]
+
+    def _others(self) -> Dict[str, Any]:
+        """Returns the attributes that a subclass or a caller has set."""
+        return {name: value for name, value in self.__dict__.items() if name not in _EDITORS_OWN}
+
+    def __copy__(self) -> "Editor[AnyStr]":
+        return _remade_editor(type(self), self.text, self._format, self._others())
+
+    def __deepcopy__(self, memo: Any) -> "Editor[AnyStr]":
+        return _remade_editor(type(self), self.text, self._format, copy.deepcopy(self._others(), memo))
+
+    def __reduce__(self) -> Tuple[Any, ...]:
+        return _remade_editor, (type(self), self.text, self._format, self._others())
+
+    def __del__(self, _free: Any = _text_free) -> None:
+        if hasattr(self, "_at") and not self._is_lost():
+            _free(self._at)
+
+
+# The attributes of an editor itself, except `reformat`.
+_EDITORS_OWN = {"_at", "_data", "_forks", "_format", "_handle", "_is_str", "_lock", "__orig_class__"}
+
+
+def _remade_editor(kind: Type[Editor[AnyStr]], text: AnyStr, format: str, others: Dict[str, Any]) -> Editor[AnyStr]:
+    """Returns an editor of this class, with its text and other attributes, as a copy or after a pickle."""
+    editor = kind.__new__(kind)
+    Editor.__init__(editor, text, format)
+    editor.__dict__.update(others)
+    return editor
+
+
+class _Seen(NamedTuple):
+    """What a file was when it was read."""
+
+    device: int
+    inode: int
+    size: int
+    changed: int
+    written: int
+
+
+def _seen(status: os.stat_result) -> _Seen:
+    """Returns what a file is."""
+    return _Seen(status.st_dev, status.st_ino, status.st_size, status.st_ctime_ns, status.st_mtime_ns)
+
+
+@contextlib.contextmanager
+def edit(path: Union[str, "os.PathLike[str]"], format: Optional[str] = None, *, reformat: bool = False) -> Iterator[Editor[str]]:
+    """Reads a file, lets its text be edited, and replaces the file if the text changed and no exception came.
+
+        with jsonptr.edit("settings.jsonc") as settings:
+            settings["/editor/fontSize"] = 14
+
+    Without `format`, it is "jsonc" for a name that ends in `.jsonc`, and else "json". The new text is written beside the file and
+    renamed, so a crash leaves the old or the new one. The file keeps its mode, and its owner if that may be set. A symbolic link
+    is followed and stays; a hard link becomes a file of its own. If another program changed the file meanwhile, it stays as that
+    program left it, and the error is `FileExistsError`.
+    """
+    real = os.path.realpath(os.fspath(path))
+    with open(real, "rb") as file:
+        before = os.fstat(file.fileno())
+        data = file.read()
+    found = format or ("jsonc" if real.endswith(".jsonc") else "json")
+    try:
+        text = data.decode()
+    except UnicodeDecodeError as error:
+        raise JsonptrError("text is not UTF-8", status=NOT_UTF8, offset=error.start, member="text") from None
+    editor = Editor(text, found, reformat=reformat)
+    yield editor
+    new = bytes(editor)
+    if new == data:
+        return
+    folder, name = os.path.split(real)
+    handle, beside = tempfile.mkstemp(prefix=f".{name}.", dir=folder)
+    try:
+        with open(handle, "wb") as out:
+            out.write(new)
+            out.flush()
+            with contextlib.suppress(PermissionError):
+                os.fchown(handle, before.st_uid, before.st_gid)
+            os.fchmod(handle, before.st_mode & 0o7777)
+            os.fsync(handle)
+        if _seen(os.stat(real)) != _seen(before):
+            raise FileExistsError(f"{real} was changed by another program")
+        os.replace(beside, real)
+    except BaseException:
+        with contextlib.suppress(FileNotFoundError):
+            os.unlink(beside)
+        raise
+    handle = os.open(folder or ".", os.O_RDONLY)
+    try:
+        os.fsync(handle)
+    finally:
+        os.close(handle)
+
+
+# ---- The names of jsonpointer and jsonpatch
+
+
+class _Nothing:
+    """No default."""
+
+
+_NOTHING = _Nothing()
+
+
+def _index(token: str, length: int) -> Optional[int]:
+    """Returns the index that a token is (RFC 6901, section 4), if it is that of one of so many elements."""
+    is_index = token.isascii() and token.isdigit() and (token == "0" or not token.startswith("0"))
+    return int(token) if is_index and len(token) < 20 and int(token) < length else None
+
+
+def _child(value: Any, token: str) -> Tuple[bool, Any]:
+    """Returns whether a Python value has a child of this name, and the child."""
+    if isinstance(value, Mapping):
+        return (True, value[token]) if token in value else (False, None)
+    if isinstance(value, Sequence) and not isinstance(value, (str, bytes, bytearray, memoryview)):
+        at = _index(token, len(value))
+        return (False, None) if at is None else (True, value[at])
+    return False, None
+
+
+def _walk(document: Any, names: Sequence[str]) -> Any:
+    """Returns the value to which the tokens lead. Raises `NotFound`."""
+    value, slash = document, 0
+    for position, token in enumerate(names):
+        there, value = _child(value, token)
+        if not there:
+            raise NotFound(f"resolve failed: json pointer token {token!r} at position {position} was not found in value",
+                           status=NOT_FOUND, position=position, slash=slash, offset=slash + 1, length=len(_bytes(escape(token))))
+        slash += 1 + len(_bytes(escape(token)))
+    return value
+
+
+def resolve_pointer(doc: Any, pointer: str, default: Any = _NOTHING) -> Any:
+    """Returns the object in `doc` that the pointer resolves to, as `jsonpointer.resolve_pointer` does. It is no copy.
+
+        >>> doc = {"sizes": [3, {"unit": "px"}]}
+        >>> resolve_pointer(doc, "/sizes/1") is doc["sizes"][1], resolve_pointer(doc, "/none", 7)
+        (True, 7)
+
+    Without a default, the error is `NotFound`. A token is a key of a mapping, or the index of an element (RFC 6901, section 4).
+    """
+    if isinstance(doc, (Document, Editor)):
+        try:
+            return doc.resolve(pointer) if isinstance(doc, Document) else doc.value(pointer)
+        except NotFound:
+            if default is _NOTHING:
+                raise
+            return default
+    try:
+        return _walk(doc, tokens(pointer))
+    except NotFound:
+        if default is _NOTHING:
+            raise
+        return default
+
+
+def set_pointer(doc: Any, pointer: str, value: Any, inplace: bool = True) -> Any:
+    """Sets a member or an element of `doc`, as `jsonpointer.set_pointer` does, and returns `doc`, or a changed copy of it.
+
+        >>> set_pointer({"sizes": [3, 5]}, "/sizes/-", 8)
+        {'sizes': [3, 5, 8]}
+
+    "-" appends to a list. What is missing on the way is not created: the error is then `NotFound`. That of an index without an
+    element, and of "" in place, is `NotAssigned`.
+    """
+    names = tokens(pointer)
+    if not names:
+        if inplace:
+            raise NotAssigned("the whole document cannot be set in place", status=NOT_ASSIGNED)
+        return value
+    changed = doc if inplace else copy.deepcopy(doc)
+    parent, token = _walk(changed, names[:-1]), names[-1]
+    if isinstance(parent, dict):
+        parent[token] = value
+    elif isinstance(parent, list) and token == "-":
+        parent.append(value)
+    elif isinstance(parent, list) and _index(token, len(parent)) is not None:
+        parent[int(token)] = value
+    else:
+        raise NotAssigned(f"assign failed: json pointer token {token!r} is no place in the value", status=NOT_ASSIGNED,
+                          position=len(names) - 1)
+    return changed
+
+
+def apply_patch(doc: JSON, patch: Union[Patch, Text, Sequence[Mapping[str, JSON]]], in_place: bool = False, *,
+                lossy: bool = False) -> Any:
+    """Returns `doc` after the operations of a patch, as `jsonpatch.apply_patch` does. Members come in the order of their keys.
+
+        >>> apply_patch({"b": 1}, [{"op": "add", "path": "/a", "value": 2}])
+        {'a': 2, 'b': 1}
+
+    With `in_place`, a dict or a list gets the new members or elements, if the new document is one too. A number that loses digits
+    is the error `NotExact`, unless `lossy`.
+    """
+    new = (patch if isinstance(patch, Patch) else Patch(patch)).apply(doc, lossy=lossy)
+    if in_place and isinstance(doc, dict) and isinstance(new, dict):
+        doc.clear()
+        doc.update(new)
+        return doc
+    if in_place and isinstance(doc, list) and isinstance(new, list):
+        doc[:] = new
+        return doc
+    return new

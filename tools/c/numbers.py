@@ -33,7 +33,7 @@ def of_module():
 
 def main():
     header = defined()
-    outside = {"COMPACT", "PRETTY", "EXACT_NUMBERS", "MEMBER_NONE", "KIND_NONE", "VERSION_MAJOR", "VERSION_MINOR", "VERSION_PATCH"}
+    outside = {"COMPACT", "PRETTY", "EXACT_NUMBERS", "REFORMAT", "FORMAT_JSON", "FORMAT_JSONC", "MEMBER_NONE", "KIND_NONE", "VERSION_MAJOR", "VERSION_MINOR", "VERSION_PATCH"}
     errors = []
     if {name: number for name, number in header.items() if name not in outside} != of_calls():
         errors.append(f"jsonptr.h and the calls differ: {sorted(set(header.items()) ^ set(of_calls().items()))}")

@@ -9,3 +9,4 @@ mod documents;
 mod errors;
 mod locations;
 mod pointers;
+mod text_edits;

@@ -38,7 +38,10 @@ cause_short kind slash low =
     (either 125 (kind == number.KIND_INDEX_ABOVE_LENGTH) _ _ (around 125 (codes "assign failed: json pointer token at offset ") (codes " is out of bounds") slash low (lit≤ tt))
     (either 125 (kind == number.KIND_MOVE_INTO_SELF) _ _ (lit≤ tt)
     (either 125 (kind == number.KIND_TEST_FLOAT) _ _ (lit≤ tt)
-    (either 125 (kind == number.KIND_TEST_FAILED) _ _ (lit≤ tt) (lit≤ tt)))))))))))
+    (either 125 (kind == number.KIND_TEST_FAILED) _ _ (lit≤ tt)
+    (either 125 (kind == number.KIND_NOTHING_THERE) _ _ (lit≤ tt)
+    (either 125 (kind == number.KIND_NOT_A_MEMBER) _ _ (lit≤ tt)
+    (either 125 (kind == number.KIND_KEY_TAKEN) _ _ (lit≤ tt) (lit≤ tt))))))))))))))
 
 -- a text that is not a pointer
 parse_short : (kind slash : ℕ) → slash < 2 ^ 64 → ((kind == number.KIND_NO_LEADING_SLASH) || (kind == number.KIND_BAD_ESCAPE)) ≡ true → length (fault_message kind slash) ≤ 121
@@ -106,7 +109,8 @@ fixed_short status =
     (either 200 (status == number.NO_TOKEN) _ _ (lit≤ tt)
     (either 200 (status == number.OTHER_TYPE) _ _ (lit≤ tt)
     (either 200 (status == number.NOT_LOCATED) _ _ (lit≤ tt)
-    (either 200 (status == number.TOO_DEEP) _ _ (lit≤ tt) (lit≤ tt)))))))))))
+    (either 200 (status == number.TOO_DEEP) _ _ (lit≤ tt)
+    (either 200 (status == number.NOT_IN_PLACE) _ _ (lit≤ tt) (lit≤ tt))))))))))))
 
 -- a text before another one
 before : (room : ℕ) (x y : List ℕ) → length x + length y ≤ room → length (x ++ y) ≤ room
@@ -120,9 +124,11 @@ message_short r fits =
     let start : length (codes "not a JSON Patch document: ") ≤ 27 = lit≤ tt in
     let at : length (codes "no value is at offset ") ≤ 22 = lit≤ tt in
     let offset : length (decimal r.offset) ≤ 20 = digits r.offset fits.2 in
-    either 200 ((r.status == number.NOT_POINTER) || ((r.status == number.NOT_FOUND) || (r.status == number.NOT_ASSIGNED))) _ _ (omega (arith, cause))
+    either 200 ((r.status == number.NOT_POINTER) || ((r.status == number.NOT_FOUND) || ((r.status == number.NOT_ASSIGNED) || (r.status == number.NOT_RENAMED)))) _ _ (omega (arith, cause))
     (either 200 (r.status == number.NOT_PATCH) _ _ (before 200 (codes "not a JSON Patch document: ") (document_message r) (omega (arith, start, document)))
     (either 200 (r.status == number.PATCH_FAILED) _ _ (before 200 (codes "patch failed at operation " ++ decimal r.operation ++ codes ": ") (fault_message r.kind r.slash) (omega (arith, place, cause)))
     (either 200 (r.status == number.NOT_EXACT) _ _ (around 200 (codes "the number at offset ") (codes " loses digits") r.offset fits.2 (lit≤ tt))
     (either 200 (r.status == number.NO_VALUE) _ _ (before 200 (codes "no value is at offset ") (decimal r.offset) (omega (arith, at, offset)))
-    (either 200 ((r.status == number.TOO_DEEP) && (r.kind == number.KIND_INVERSE_TOO_DEEP)) _ _ (lit≤ tt) (fixed_short r.status))))))
+    (either 200 ((r.status == number.TOO_DEEP) && (r.kind == number.KIND_INVERSE_TOO_DEEP)) _ _ (lit≤ tt)
+    (either 200 ((r.status == number.TOO_DEEP) && (r.kind == number.KIND_TEXT_TOO_DEEP)) _ _ (lit≤ tt)
+    (either 200 ((r.status == number.NOT_JSON) && (r.kind == number.KIND_OPEN_COMMENT)) _ _ (lit≤ tt) (fixed_short r.status))))))))

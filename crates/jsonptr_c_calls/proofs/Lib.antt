@@ -1,5 +1,7 @@
 pub mod ApartSteps
 pub mod SlotSteps
+pub mod TextSlotSteps
+mod ChangeLemmas
 pub mod PointerLemmas
 mod NestingLemmas
 mod BoundLemmas
@@ -9,3 +11,4 @@ mod LocationLemmas
 mod MessageLemmas
 mod BoundedMessages
 mod CopyLemmas
+mod OpenTextLemmas

@@ -7,11 +7,12 @@ use Rattle.jsonptr_patch.specs.declared.operation.PatchError.{PatchError}
 use Rattle.jsonptr_patch.specs.declared.operation.PatchError.TheVariants as patch_error
 use Rattle.jsonptr_patch_document.specs.declared.member.Member.TheVariants as member
 use Rattle.jsonptr_patch_document.specs.declared.error.PatchDocumentError.TheVariants as document_error
+use Rattle.jsonptr_text_step.specs.declared.rename.RenameError.TheVariants as rename
 use Rattle.jsonptr_c_calls.specs.Messages.{error_message, message_of, patch_message}
 use Rattle.jsonptr_c_calls.specs.ErrorNumbers.{fault_number, patch_row, record_of, with_status}
 use Rattle.jsonptr_c_calls.specs.declared.error_numbers.TheConstants as number
 use Rattle.jsonptr_c_calls.specs.declared.call_error.CallError.{CallError}
-use Rattle.jsonptr_c_calls.specs.declared.call_error.CallError.TheVariants.{Memory, NoRoom, NoDocument, NotUtf8, NotJson, NotExact, NotPointer, NoToken, Resolve, NotLocated, NoValue, OtherType, Assign, NotPatch, PatchFailed, TooDeep, InverseTooDeep}
+use Rattle.jsonptr_c_calls.specs.declared.call_error.CallError.TheVariants.{Memory, NoRoom, NoDocument, NotUtf8, NotJson, NotExact, NotPointer, NoToken, Resolve, NotLocated, NoValue, OtherType, Assign, NotPatch, PatchFailed, TooDeep, InverseTooDeep, TextTooDeep, NotRenamed, OpenComment, NotInPlace}
 
 -- that of an operation that fails, whatever pointer is at fault
 failed_one : (e : PatchError) (m : ℕ) → message_of (with_status number.PATCH_FAILED (patch_row e m)) ≡ patch_message e
@@ -66,3 +67,9 @@ message_one (NotPatch (document_error.NotPointer i member.Value (parse_error.Inv
 message_one (PatchFailed f) bytes = failed_one f.error (fault_number f.pointer)
 message_one TooDeep bytes = refl
 message_one InverseTooDeep bytes = refl
+message_one TextTooDeep bytes = refl
+message_one (NotRenamed rename.NotThere) bytes = refl
+message_one (NotRenamed rename.NotAMember) bytes = refl
+message_one (NotRenamed rename.KeyTaken) bytes = refl
+message_one (OpenComment offset) bytes = refl
+message_one NotInPlace bytes = refl

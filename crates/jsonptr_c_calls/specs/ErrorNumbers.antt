@@ -17,11 +17,13 @@ use Rattle.jsonptr_patch_document.specs.declared.member.Member.{Member}
 use Rattle.jsonptr_patch_document.specs.declared.member.Member.TheVariants as member
 use Rattle.jsonptr_patch_document.specs.declared.error.PatchDocumentError.{PatchDocumentError}
 use Rattle.jsonptr_patch_document.specs.declared.error.PatchDocumentError.TheVariants as document_error
+use Rattle.jsonptr_text_step.specs.declared.rename.RenameError.{RenameError}
+use Rattle.jsonptr_text_step.specs.declared.rename.RenameError.TheVariants as rename
 use Rattle.jsonptr_c_calls.specs.declared.error_numbers.TheConstants as number
 use Rattle.jsonptr_c_calls.specs.declared.call_error.Argument.{Argument}
 use Rattle.jsonptr_c_calls.specs.declared.call_error.Argument.TheVariants as argument
 use Rattle.jsonptr_c_calls.specs.declared.call_error.CallError.{CallError}
-use Rattle.jsonptr_c_calls.specs.declared.call_error.CallError.TheVariants.{Memory, NoRoom, NoDocument, NotUtf8, NotJson, NotExact, NotPointer, NoToken, Resolve, NotLocated, NoValue, OtherType, Assign, NotPatch, PatchFailed, TooDeep, InverseTooDeep}
+use Rattle.jsonptr_c_calls.specs.declared.call_error.CallError.TheVariants.{Memory, NoRoom, NoDocument, NotUtf8, NotJson, NotExact, NotPointer, NoToken, Resolve, NotLocated, NoValue, OtherType, Assign, NotPatch, PatchFailed, TooDeep, InverseTooDeep, TextTooDeep, NotRenamed, OpenComment, NotInPlace}
 use Rattle.jsonptr_c_calls.specs.declared.error_numbers.ErrorRecord.{ErrorRecord}
 
 -- `row status kind member operation position slash offset length`: the record with these numbers
@@ -134,6 +136,12 @@ pointer_row (parse_error.InvalidEncoding offset source) bytes =
     row 0 number.KIND_BAD_ESCAPE 0 0 (slashes_before bytes offset) offset (capped (offset + source.offset))
     (escape_length bytes (capped (offset + source.offset)))
 
+-- `rename_kind f`: the kind of the error `f` of a renaming
+abbrev pub rename_kind : RenameError → ℕ
+rename_kind rename.NotThere = number.KIND_NOTHING_THERE
+rename_kind rename.NotAMember = number.KIND_NOT_A_MEMBER
+rename_kind rename.KeyTaken = number.KIND_KEY_TAKEN
+
 -- `argument_number a`: the number of the argument `a` of a call
 abbrev pub argument_number : Argument → ℕ
 argument_number argument.Pointer = number.ARGUMENT_POINTER
@@ -159,6 +167,10 @@ status_number (NotPatch e) = number.NOT_PATCH
 status_number (PatchFailed f) = number.PATCH_FAILED
 status_number TooDeep = number.TOO_DEEP
 status_number InverseTooDeep = number.TOO_DEEP
+status_number TextTooDeep = number.TOO_DEEP
+status_number (NotRenamed f) = number.NOT_RENAMED
+status_number (OpenComment offset) = number.NOT_JSON
+status_number NotInPlace = number.NOT_IN_PLACE
 
 -- `fields_of e bytes`: the record of the error `e` of a call with the pointer `bytes`, without its status
 abbrev pub fields_of : CallError → List ℕ → ErrorRecord
@@ -179,6 +191,10 @@ fields_of (NotPatch e) bytes = patch_document_row e
 fields_of (PatchFailed f) bytes = patch_row f.error (fault_number f.pointer)
 fields_of TooDeep bytes = no_error
 fields_of InverseTooDeep bytes = of_kind number.KIND_INVERSE_TOO_DEEP
+fields_of TextTooDeep bytes = of_kind number.KIND_TEXT_TOO_DEEP
+fields_of (NotRenamed f) bytes = of_kind (rename_kind f)
+fields_of (OpenComment offset) bytes = row 0 number.KIND_OPEN_COMMENT 0 0 0 0 offset 0
+fields_of NotInPlace bytes = no_error
 
 -- `with_status s r`: the record `r` with the status `s`
 abbrev pub with_status : ℕ → ErrorRecord → ErrorRecord

@@ -15,3 +15,10 @@ pub mod Patches
 pub mod ErrorNumbers
 pub mod Messages
 pub mod Outcomes
+pub mod Changing
+pub mod Marks
+pub mod OpenTexts
+pub mod TextSlot
+pub mod TextHandle
+pub mod TextReads
+pub mod TextCalls

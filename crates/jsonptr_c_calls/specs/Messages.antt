@@ -9,9 +9,11 @@ use Rattle.jsonptr_patch.specs.declared.operation.PatchError.TheVariants as patc
 use Rattle.jsonptr_patch_document.specs.Object.{member_key}
 use Rattle.jsonptr_patch_document.specs.declared.error.PatchDocumentError.{PatchDocumentError}
 use Rattle.jsonptr_patch_document.specs.declared.error.PatchDocumentError.TheVariants as document_error
+use Rattle.jsonptr_text_step.specs.declared.rename.RenameError.{RenameError}
+use Rattle.jsonptr_text_step.specs.declared.rename.RenameError.TheVariants as rename
 use Rattle.jsonptr_c_calls.specs.declared.error_numbers.TheConstants as number
 use Rattle.jsonptr_c_calls.specs.declared.call_error.CallError.{CallError}
-use Rattle.jsonptr_c_calls.specs.declared.call_error.CallError.TheVariants.{Memory, NoRoom, NoDocument, NotUtf8, NotJson, NotExact, NotPointer, NoToken, Resolve, NotLocated, NoValue, OtherType, Assign, NotPatch, PatchFailed, TooDeep, InverseTooDeep}
+use Rattle.jsonptr_c_calls.specs.declared.call_error.CallError.TheVariants.{Memory, NoRoom, NoDocument, NotUtf8, NotJson, NotExact, NotPointer, NoToken, Resolve, NotLocated, NoValue, OtherType, Assign, NotPatch, PatchFailed, TooDeep, InverseTooDeep, TextTooDeep, NotRenamed, OpenComment, NotInPlace}
 use Rattle.jsonptr_c_calls.specs.declared.error_numbers.ErrorRecord.{ErrorRecord}
 
 -- `patch_message e`: the message of an operation that fails
@@ -45,6 +47,12 @@ patch_document_message (document_error.NotPointer i m cause) =
     codes "not a JSON Patch document: " ++ codes "member `" ++ member_key m ++ codes "` of operation " ++ decimal i
     ++ codes ": " ++ parse_message cause
 
+-- `rename_message f`: the message of a renaming that fails
+abbrev pub rename_message : RenameError → Text
+rename_message rename.NotThere = codes "rename failed: pointer resolves to nothing"
+rename_message rename.NotAMember = codes "rename failed: value is not a member of an object"
+rename_message rename.KeyTaken = codes "rename failed: another member has the key"
+
 -- `error_message e`: the message of the error `e`. Of an error of the library it is the text that this displays
 abbrev pub error_message : CallError → Text
 error_message (Memory e) = codes "out of memory"
@@ -65,6 +73,10 @@ error_message (NotPatch e) = patch_document_message e
 error_message (PatchFailed f) = patch_message f.error
 error_message TooDeep = codes "the document could nest deeper than 10,127"
 error_message InverseTooDeep = codes "the inverse of the patch would nest deeper than 127"
+error_message TextTooDeep = codes "the text would nest deeper than 127"
+error_message (NotRenamed f) = rename_message f
+error_message (OpenComment offset) = codes "comment is not closed"
+error_message NotInPlace = codes "the edit is possible, but not in place"
 
 -- ---- The same by the numbers of a record
 
@@ -82,6 +94,7 @@ fixed_message status =
     else if status == number.OTHER_TYPE then codes "the value is of another type"
     else if status == number.NOT_LOCATED then codes "value cannot be located in the text"
     else if status == number.TOO_DEEP then codes "the document could nest deeper than 10,127"
+    else if status == number.NOT_IN_PLACE then codes "the edit is possible, but not in place"
     else codes "unknown status"
 
 -- `fault_message kind slash`: what is at fault with a pointer or with an operation, by the kind and the slash
@@ -109,6 +122,9 @@ fault_message kind slash =
     else if kind == number.KIND_MOVE_INTO_SELF then codes "from is a proper prefix of path"
     else if kind == number.KIND_TEST_FLOAT then codes "a float cannot be tested"
     else if kind == number.KIND_TEST_FAILED then codes "test failed"
+    else if kind == number.KIND_NOTHING_THERE then codes "rename failed: pointer resolves to nothing"
+    else if kind == number.KIND_NOT_A_MEMBER then codes "rename failed: value is not a member of an object"
+    else if kind == number.KIND_KEY_TAKEN then codes "rename failed: another member has the key"
     else codes "unknown kind"
 
 -- `member_name m`: the key of the member of an operation with the number `m`
@@ -140,7 +156,8 @@ document_message r =
 -- `message_of r`: the message of the record `r`
 abbrev pub message_of : ErrorRecord → Text
 message_of r =
-    if (r.status == number.NOT_POINTER) || ((r.status == number.NOT_FOUND) || (r.status == number.NOT_ASSIGNED))
+    if (r.status == number.NOT_POINTER) || ((r.status == number.NOT_FOUND)
+    || ((r.status == number.NOT_ASSIGNED) || (r.status == number.NOT_RENAMED)))
     then fault_message r.kind r.slash
     else if r.status == number.NOT_PATCH then codes "not a JSON Patch document: " ++ document_message r
     else if r.status == number.PATCH_FAILED
@@ -150,6 +167,9 @@ message_of r =
     else if r.status == number.NO_VALUE then codes "no value is at offset " ++ decimal r.offset
     else if (r.status == number.TOO_DEEP) && (r.kind == number.KIND_INVERSE_TOO_DEEP)
     then codes "the inverse of the patch would nest deeper than 127"
+    else if (r.status == number.TOO_DEEP) && (r.kind == number.KIND_TEXT_TOO_DEEP)
+    then codes "the text would nest deeper than 127"
+    else if (r.status == number.NOT_JSON) && (r.kind == number.KIND_OPEN_COMMENT) then codes "comment is not closed"
     else fixed_message r.status
 
 -- `HasMessageNumbers r`: the numbers of the record `r` that are in messages are those of an `u64`

@@ -6,6 +6,7 @@ use jsonptr::{ParseError, assign, resolve};
 use jsonptr_patch::FailedOperation;
 use jsonptr_patch_document::PatchDocumentError;
 use jsonptr_text_digits::Lost;
+use jsonptr_text_edit::RenameError;
 use std::alloc::AllocError;
 
 /// A text that is passed to a call.
@@ -65,12 +66,23 @@ pub enum CallError {
     TooDeep,
     /// The patch document that takes a patch back would nest deeper than 127.
     InverseTooDeep,
+    /// The document of a text would nest deeper than 127, so that it could not be read.
+    TextTooDeep,
     /// A value cannot be assigned at a pointer.
     Assign(assign::Error),
     /// A document is not a patch.
     NotPatch(PatchDocumentError),
     /// An operation of a patch fails: why, and which of its pointers is at fault, if one is.
     PatchFailed(FailedOperation),
+    /// A member cannot be renamed.
+    NotRenamed(RenameError),
+    /// A block comment of a text is not closed.
+    OpenComment {
+        /// The offset at which it begins.
+        offset: usize,
+    },
+    /// An edit of a text is possible, but not in place.
+    NotInPlace,
 }
 
 impl From<AllocError> for CallError {

@@ -2,12 +2,13 @@
 //! `tools/c/jsonptr.h` defines the same ones.
 ghost use Rattle.std.specs.Prelude.{◌≡◌, ◌==◌, ◌+◌, not, count_by, drop, take};
 ghost use Rattle.std.specs.List.{prefix_len};
-ghost use Rattle.jsonptr_c_calls.specs.ErrorNumbers.{argument_number, assign_row, at_token, escape_length, fault_number, fields_of, member_number, no_error, of_kind, of_operation, parse_row, patch_document_row, patch_row, pointer_row, record_of, resolve_row, row, slashes_before, status_number, token_length};
+ghost use Rattle.jsonptr_c_calls.specs.ErrorNumbers.{argument_number, assign_row, at_token, escape_length, fault_number, fields_of, member_number, no_error, of_kind, of_operation, parse_row, patch_document_row, patch_row, pointer_row, record_of, rename_kind, resolve_row, row, slashes_before, status_number, token_length};
 
 use crate::call_error::{Argument, CallError};
 use jsonptr::{ParseError, assign, resolve};
 use jsonptr_patch::{PatchError, PatchPointer};
 use jsonptr_patch_document::{Member, PatchDocumentError};
+use jsonptr_text_edit::RenameError;
 
 /// The status of a call that succeeds.
 pub const OK: u32 = 0;
@@ -45,6 +46,10 @@ pub const NOT_EXACT: u32 = 15;
 pub const NOT_LOCATED: u32 = 16;
 /// No value of the text is at the offset.
 pub const NO_VALUE: u32 = 17;
+/// The edit is possible, but not in place.
+pub const NOT_IN_PLACE: u32 = 18;
+/// The member cannot be renamed so.
+pub const NOT_RENAMED: u32 = 21;
 
 /// A pointer is not empty and does not start with a slash.
 pub const KIND_NO_LEADING_SLASH: u32 = 1;
@@ -80,6 +85,16 @@ pub const KIND_NOT_A_STRING: u32 = 15;
 pub const KIND_UNKNOWN_OP: u32 = 16;
 /// The patch that takes a patch back would nest deeper than a text that is read.
 pub const KIND_INVERSE_TOO_DEEP: u32 = 17;
+/// A block comment is not closed.
+pub const KIND_OPEN_COMMENT: u32 = 18;
+/// The text would nest deeper than one that is read.
+pub const KIND_TEXT_TOO_DEEP: u32 = 19;
+/// The pointer resolves to nothing.
+pub const KIND_NOTHING_THERE: u32 = 20;
+/// The pointer resolves to the root or to an element of an array.
+pub const KIND_NOT_A_MEMBER: u32 = 21;
+/// Another member of the object has the key.
+pub const KIND_KEY_TAKEN: u32 = 22;
 
 /// The member `op` of an operation.
 pub const MEMBER_OP: u32 = 1;
@@ -177,7 +192,10 @@ fn status_number(call_error: &CallError) -> u32
         CallError::Assign(_) => NOT_ASSIGNED,
         CallError::NotPatch(_) => NOT_PATCH,
         CallError::PatchFailed(_) => PATCH_FAILED,
-        CallError::TooDeep | CallError::InverseTooDeep => TOO_DEEP,
+        CallError::TooDeep | CallError::InverseTooDeep | CallError::TextTooDeep => TOO_DEEP,
+        CallError::NotRenamed(_) => NOT_RENAMED,
+        CallError::OpenComment { .. } => NOT_JSON,
+        CallError::NotInPlace => NOT_IN_PLACE,
     }
 }
 
@@ -211,12 +229,19 @@ fn fields_of(call_error: &CallError, pointer: &[u8]) -> ErrorRecord
         CallError::NotPatch(error) => patch_document_row(error),
         CallError::PatchFailed(failed) => { patch_row(&failed.error, fault_number(failed.pointer)) }
         CallError::InverseTooDeep => of_kind(KIND_INVERSE_TOO_DEEP),
+        CallError::TextTooDeep => of_kind(KIND_TEXT_TOO_DEEP),
+        CallError::NotRenamed(error) => of_kind(rename_kind(*error)),
+        CallError::OpenComment { offset } => ErrorRecord {
+            kind: KIND_OPEN_COMMENT,
+            ..at_offset(*offset)
+        },
         CallError::Memory(_)
         | CallError::NoDocument
         | CallError::NoToken
         | CallError::NotLocated
         | CallError::OtherType
-        | CallError::TooDeep => ErrorRecord::none(),
+        | CallError::TooDeep
+        | CallError::NotInPlace => ErrorRecord::none(),
     }
 }
 
@@ -227,6 +252,17 @@ fn at_offset(offset: usize) -> ErrorRecord
     ErrorRecord {
         offset: offset as u64,
         ..ErrorRecord::none()
+    }
+}
+
+/// Returns the kind of an error of a renaming.
+fn rename_kind(error: RenameError) -> u32
+    ensures { result ≡ rename_kind error }
+{
+    match error {
+        RenameError::NotThere => KIND_NOTHING_THERE,
+        RenameError::NotAMember => KIND_NOT_A_MEMBER,
+        RenameError::KeyTaken => KIND_KEY_TAKEN,
     }
 }
 

@@ -43,7 +43,7 @@ impl fmt::Display for ErrorRecord {
 
     fn fmt<W: fmt::Write>(&self, f: &mut fmt::Formatter<W>) -> fmt::Result {
         match self.status {
-            NOT_POINTER | NOT_FOUND | NOT_ASSIGNED => write!(f, "{}", Cause(*self)),
+            NOT_POINTER | NOT_FOUND | NOT_ASSIGNED | NOT_RENAMED => write!(f, "{}", Cause(*self)),
             NOT_PATCH => write!(
                 f,
                 "not a JSON Patch document: {}",
@@ -64,6 +64,10 @@ impl fmt::Display for ErrorRecord {
             TOO_DEEP if self.kind == KIND_INVERSE_TOO_DEEP => {
                 f.write_str("the inverse of the patch would nest deeper than 127")
             }
+            TOO_DEEP if self.kind == KIND_TEXT_TOO_DEEP => {
+                f.write_str("the text would nest deeper than 127")
+            }
+            NOT_JSON if self.kind == KIND_OPEN_COMMENT => f.write_str("comment is not closed"),
             status => f.write_str(fixed_message(status)),
         }
     }
@@ -86,6 +90,7 @@ fn fixed_message(status: u32) -> &'static str
         OTHER_TYPE => "the value is of another type",
         NOT_LOCATED => "value cannot be located in the text",
         TOO_DEEP => "the document could nest deeper than 10,127",
+        NOT_IN_PLACE => "the edit is possible, but not in place",
         _ => "unknown status",
     }
 }
@@ -134,6 +139,9 @@ impl fmt::Display for Cause {
             KIND_MOVE_INTO_SELF => f.write_str("from is a proper prefix of path"),
             KIND_TEST_FLOAT => f.write_str("a float cannot be tested"),
             KIND_TEST_FAILED => f.write_str("test failed"),
+            KIND_NOTHING_THERE => f.write_str("rename failed: pointer resolves to nothing"),
+            KIND_NOT_A_MEMBER => f.write_str("rename failed: value is not a member of an object"),
+            KIND_KEY_TAKEN => f.write_str("rename failed: another member has the key"),
             _ => f.write_str("unknown kind"),
         }
     }

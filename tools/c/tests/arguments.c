@@ -9,6 +9,8 @@
 
 static void check_bad(void) {
     jsonptr_document document = parsed("[7]"), other = parsed("[8]");
+    jsonptr_text text = opened(JSONPTR_FORMAT_JSON, "[9]");
+    jsonptr_change change;
     jsonptr_error error;
     jsonptr_node node;
     char out[8];
@@ -66,6 +68,37 @@ static void check_bad(void) {
     EXPECT(jsonptr_document_diff(&document, NULL, 0, out, 8, &length, NULL), BAD);
     EXPECT(jsonptr_document_diff(NULL, &document, 0, out, 8, &length, NULL), BAD);
     EXPECT(jsonptr_document_diff(&document, &other, 0, NULL, 8, &length, NULL), BAD);
+    EXPECT(jsonptr_text_open(NULL, 0, "1", 1, NULL), BAD);
+    EXPECT(jsonptr_text_open(&text, 0, NULL, 1, NULL), BAD);
+    EXPECT(jsonptr_text_open(&text, 0, "1", huge, NULL), BAD);
+    EXPECT(jsonptr_text_open(&text, 2, "1", 1, &error), BAD);
+    expect_number("status of the error", "a format", error.status, BAD);
+    EXPECT(jsonptr_text_assign(NULL, "", 0, "1", 1, 0, &change, NULL), BAD);
+    EXPECT(jsonptr_text_assign(&text, NULL, 1, "1", 1, 0, &change, NULL), BAD);
+    EXPECT(jsonptr_text_assign(&text, "", 0, NULL, 1, 0, &change, NULL), BAD);
+    EXPECT(jsonptr_text_assign(&text, "", huge, "1", 1, 0, &change, NULL), BAD);
+    EXPECT(jsonptr_text_assign(&text, "", 0, "1", huge, 0, &change, NULL), BAD);
+    EXPECT(jsonptr_text_assign(&text, "", 0, "1", 1, 1, &change, NULL), BAD);
+    EXPECT(jsonptr_text_assign(&text, "", 0, "1", 1, JSONPTR_REFORMAT | 16u, &change, NULL), BAD);
+    EXPECT(jsonptr_text_delete(NULL, "", 0, 0, NULL, NULL, NULL), BAD);
+    EXPECT(jsonptr_text_delete(&text, NULL, 1, 0, NULL, NULL, NULL), BAD);
+    EXPECT(jsonptr_text_delete(&text, "", 0, 4, NULL, NULL, NULL), BAD);
+    EXPECT(jsonptr_text_rename(NULL, "", 0, "a", 1, 0, NULL, NULL), BAD);
+    EXPECT(jsonptr_text_rename(&text, NULL, 1, "a", 1, 0, NULL, NULL), BAD);
+    EXPECT(jsonptr_text_rename(&text, "", 0, NULL, 1, 0, NULL, NULL), BAD);
+    EXPECT(jsonptr_text_rename(&text, "", 0, "a", 1, 2, NULL, NULL), BAD);
+    EXPECT(jsonptr_text_patch(NULL, "[]", 2, 0, NULL, NULL), BAD);
+    EXPECT(jsonptr_text_patch(&text, NULL, 2, 0, NULL, NULL), BAD);
+    EXPECT(jsonptr_text_patch(&text, "[]", 2, 1, NULL, NULL), BAD);
+    EXPECT(jsonptr_text_remove_comments(NULL, &error), BAD);
+    EXPECT(jsonptr_text_locate(NULL, "", 0, NULL, NULL, NULL), BAD);
+    EXPECT(jsonptr_text_locate(&text, NULL, 1, NULL, NULL, NULL), BAD);
+    EXPECT(jsonptr_text_pointer_at(NULL, 0, out, 8, &length, NULL), BAD);
+    EXPECT(jsonptr_text_pointer_at(&text, 0, NULL, 8, &length, NULL), BAD);
+    EXPECT(jsonptr_text_copy(NULL, 0, 1, out, 8, &length, NULL), BAD);
+    EXPECT(jsonptr_text_copy(&text, 0, 1, NULL, 8, &length, NULL), BAD);
+    EXPECT(jsonptr_text_copy(&text, 0, 1, out, huge, &length, NULL), BAD);
+    expect_open_text("bad arguments", &text, "[9]");
     EXPECT(jsonptr_resolve_in_text(NULL, 1, "", 0, 0, out, 8, &length, NULL), BAD);
     EXPECT(jsonptr_resolve_in_text("1", 1, NULL, 1, 0, out, 8, &length, NULL), BAD);
     EXPECT(jsonptr_resolve_in_text("1", 1, "", 0, 0, NULL, 8, &length, NULL), BAD);
@@ -90,10 +123,12 @@ static void check_bad(void) {
     expect_document("after bad arguments", &document, "[7]");
     jsonptr_document_free(&document);
     jsonptr_document_free(&other);
+    jsonptr_text_free(&text);
 }
 
 static void check_empty(void) {
     jsonptr_document document = parsed("[7]");
+    jsonptr_text text = JSONPTR_TEXT_INIT;
     char out[2];
     size_t length = 9, huge = SIZE_MAX;
     EXPECT(jsonptr_pointer_count(NULL, 0, &length, NULL), JSONPTR_OK);
@@ -123,6 +158,21 @@ static void check_empty(void) {
     EXPECT(jsonptr_document_assign(&document, NULL, 0, "{}", 2, NULL), JSONPTR_OK);
     expect_document("NULL as the root", &document, "{}");
     EXPECT(jsonptr_resolve_in_text(NULL, 0, NULL, 0, 0, NULL, 0, NULL, NULL), JSONPTR_NOT_JSON);
+    EXPECT(jsonptr_text_open(&text, JSONPTR_FORMAT_JSON, NULL, 0, NULL), JSONPTR_NOT_JSON);
+    EXPECT(jsonptr_text_open(&text, JSONPTR_FORMAT_JSONC, "{}", 2, NULL), JSONPTR_OK);
+    EXPECT(jsonptr_text_assign(&text, NULL, 0, NULL, 0, 0, NULL, NULL), JSONPTR_NOT_JSON);
+    EXPECT(jsonptr_text_assign(&text, "/a", 2, "1", 1, 0, NULL, NULL), JSONPTR_OK);
+    EXPECT(jsonptr_text_rename(&text, "/a", 2, NULL, 0, 0, NULL, NULL), JSONPTR_OK);
+    EXPECT(jsonptr_text_delete(&text, "/a", 2, 0, NULL, NULL, NULL), JSONPTR_OK);
+    EXPECT(jsonptr_text_patch(&text, NULL, 0, 0, NULL, NULL), JSONPTR_NOT_JSON);
+    EXPECT(jsonptr_text_patch(&text, "[]", 2, 0, NULL, NULL), JSONPTR_OK);
+    EXPECT(jsonptr_text_locate(&text, NULL, 0, NULL, NULL, NULL), JSONPTR_OK);
+    EXPECT(jsonptr_text_pointer_at(&text, 0, NULL, 0, NULL, NULL), JSONPTR_OK);
+    EXPECT(jsonptr_text_remove_comments(&text, NULL), JSONPTR_OK);
+    EXPECT(jsonptr_text_copy(&text, 0, SIZE_MAX, NULL, 0, NULL, NULL), JSONPTR_NO_ROOM);
+    EXPECT(jsonptr_text_copy(&text, 0, 0, NULL, 0, NULL, NULL), JSONPTR_OK);
+    expect_open_text("NULL as the key", &text, "{\"\":1}");
+    jsonptr_text_free(&text);
     length = 0;
     EXPECT(jsonptr_pointer_push(NULL, 0, &length, NULL, 0, NULL), JSONPTR_NO_ROOM);
     EXPECT(jsonptr_pointer_pop(NULL, &length, NULL), JSONPTR_NO_TOKEN);
@@ -146,6 +196,7 @@ static void check_empty(void) {
 
 static void check_zero(void) {
     jsonptr_document document = parsed("[\"abc\"]"), other = parsed("[]");
+    jsonptr_text text = opened(JSONPTR_FORMAT_JSON, "[1.0]");
     jsonptr_error error = { .status = JSONPTR_NOT_JSON };
     char out[64];
     size_t n = 0;
@@ -161,12 +212,15 @@ static void check_zero(void) {
     ENDS("[{\"op\":\"remove\",\"path\":\"/0\"}]", jsonptr_document_diff(&document, &other, 0, out, capacity, &n, NULL), (void)0);
     ENDS("7", jsonptr_resolve_in_text("[7]", 3, "/0", 2, 0, out, capacity, &n, NULL), (void)0);
     ENDS("/0", jsonptr_lost_number_in_text("[1e-400]", 8, &found, out, capacity, &n, NULL), (void)0);
+    ENDS("/0", jsonptr_text_pointer_at(&text, 1, out, capacity, &n, NULL), (void)0);
+    ENDS("1.0", jsonptr_text_copy(&text, 1, 4, out, capacity, &n, NULL), (void)0);
     ENDS("/0", jsonptr_pointer_at_in_text("[7]", 3, 1, out, capacity, &n, NULL), (void)0);
     memset(out, '#', sizeof out);
     EXPECT(jsonptr_document_get(&document, "/1", 2, 0, out, sizeof out, NULL, NULL), JSONPTR_NOT_FOUND);
     expect_number("first byte", "after an error", (unsigned char)out[0], '#');
     jsonptr_document_free(&document);
     jsonptr_document_free(&other);
+    jsonptr_text_free(&text);
 }
 
 int main(void) {

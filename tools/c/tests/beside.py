@@ -1,6 +1,6 @@
 """Runs the Python wrapper and the modules `jsonpointer` and `jsonpatch` on the same calls.
 
-Both have to return the same, except for the differences that are named here, which are the rows of the table of docs/C.md.
+Both have to return the same, except for the differences that are named here, which are the rows of the table of docs/FROM_JSONPATCH.md.
 Those are checked as well: a difference that is gone is reported. A result of theirs is put into the order of its keys, in which
 ours has to be already.
 """
@@ -51,13 +51,13 @@ PATCHES = [
     [],
 ]
 
-PAGE = f"{os.path.dirname(os.path.abspath(__file__))}/../../../docs/C.md"
+PAGE = f"{os.path.dirname(os.path.abspath(__file__))}/../../../docs/FROM_JSONPATCH.md"
 DEEP = functools.reduce(lambda inner, _: [inner], range(200), 1)
 LEADING_ZERO = int(jsonpointer.__version__.split(".")[0]) < 3  # jsonpointer ignores it, which RFC 6901 does not allow
 
 
 class Difference(NamedTuple):
-    """A row of the table of docs/C.md: its cells, and calls of ours and of theirs, each with what it returns."""
+    """A row of the table of docs/FROM_JSONPATCH.md: its cells, and calls of ours and of theirs, each with what it returns."""
 
     what: str
     here: str
@@ -94,7 +94,7 @@ DIFFERENCES = [
         (lambda: jsonptr.Document.of([{"\U0001f600": 1, "\ufb01": 2, "z": 3}]).resolve("/0"),
          lambda: jsonpointer.resolve_pointer([{"\U0001f600": 1, "\ufb01": 2, "z": 3}], "/0"),
          {"z": 3, "\ufb01": 2, "\U0001f600": 1}, {"\U0001f600": 1, "\ufb01": 2, "z": 3}))),
-    Difference("what resolving returns", "a copy", "the object in the value", (
+    Difference("what `resolve` returns, and `resolve_pointer` of a `Document`", "a copy", "the object in the value", (
         (is_same_object(jsonptr.resolve, SHARED), is_same_object(jsonpointer.resolve_pointer, SHARED), False, True),)),
     Difference("a value that nests deeper than 127", "an error", "works", (
         (*resolved(DEEP, "/0" * 200), NOT_READ, 1), (*applied([], DEEP), NOT_READ, DEEP))),
@@ -344,12 +344,12 @@ def check_differences_of_documents():
 
 
 def check_named():
-    """Checks that each named difference is one, and that they are the rows of the table of docs/C.md."""
+    """Checks that each named difference is one, and that they are the rows of the table of docs/FROM_JSONPATCH.md."""
     with open(PAGE, encoding="utf-8") as file:
         table = re.search(r"^\| What \| here \| there \|\n\|[-|]+\n((?:\|.*\n)+)", file.read(), re.M)[1]
     rows = [f"| {it.what} | {it.here} | {it.there} |" for it in DIFFERENCES]
     for row in sorted(set(rows) ^ set(table.splitlines())):
-        report("docs/C.md and the differences here:", row)
+        report("docs/FROM_JSONPATCH.md and the differences here:", row)
     for difference in DIFFERENCES:
         for ours, theirs, our_result, their_result in difference.cases:
             if repr(outcome(ours)) != repr(our_result) or repr(outcome(theirs)) != repr(their_result):

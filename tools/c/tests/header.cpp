@@ -3,6 +3,32 @@
 
 #include <iostream>
 #include <string>
+#include <type_traits>
+#include <utility>
+#include <vector>
+
+static_assert(!std::is_copy_constructible<jsonptr::text>::value && !std::is_copy_assignable<jsonptr::document>::value, "copies");
+
+// Handles that move, and are freed with their variables.
+static bool moves() {
+    std::vector<jsonptr::text> texts;
+    for (const char *bytes : {"[1]", "[2]", "[3]"}) {
+        jsonptr::text text;
+        if (jsonptr_text_open(text.handle(), JSONPTR_FORMAT_JSON, bytes, 3, nullptr) != JSONPTR_OK) {
+            return false;
+        }
+        texts.push_back(std::move(text));
+    }
+    texts[0] = std::move(texts[2]);
+    texts[1] = jsonptr::text();
+    jsonptr::text &same = texts[0];
+    same = std::move(texts[0]);
+    const jsonptr::text &first = texts[0];
+    char out[4] = "";
+    return jsonptr_text_copy(first.handle(), 0, SIZE_MAX, out, sizeof out, nullptr, nullptr) == JSONPTR_OK
+        && std::string(out) == "[3]"
+        && jsonptr_text_copy(texts[1].handle(), 0, 1, out, sizeof out, nullptr, nullptr) == JSONPTR_NO_DOCUMENT;
+}
 
 int main() {
     jsonptr_document document = JSONPTR_DOCUMENT_INIT;
@@ -16,6 +42,9 @@ int main() {
         return 1;
     }
     jsonptr_document_free(&document);
+    if (!moves()) {
+        return 1;
+    }
     std::cout << "header: passed\n";
     return 0;
 }

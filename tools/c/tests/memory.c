@@ -1,5 +1,5 @@
 /* Each request for memory fails in turn. A call whose request fails returns JSONPTR_NO_MEMORY, and the document prints as
- * before. After each round no block is left. The linker calls these functions in place of malloc, realloc and free. */
+ * before, as does the text. After each round no block is left. The linker calls these functions in place of malloc, realloc and free. */
 #include "tests.h"
 
 void *__real_malloc(size_t size);
@@ -36,8 +36,13 @@ void __wrap_free(void *block) {
 #define PATCH "[{\"op\":\"copy\",\"from\":\"/a~1b\",\"path\":\"/copy\"},{\"op\":\"add\",\"path\":\"/a~1b/-\",\"value\":\"new\"}," \
               "{\"op\":\"move\",\"from\":\"/copy/0\",\"path\":\"/m~0n\"},{\"op\":\"remove\",\"path\":\"/long key that is stored/2\"}]"
 
+#define SETTINGS "{\n  // one\n  \"a/b\": [1.0, {\"c\": null}], /* two */\n  \"long key that is stored\": \"a string that is stored\",\n}\n"
+#define EDITS "[{\"op\":\"copy\",\"from\":\"/a~1b\",\"path\":\"/copy\"},{\"op\":\"add\",\"path\":\"/a~1b/-\",\"value\":\"new\"}," \
+              "{\"op\":\"remove\",\"path\":\"/long key that is stored\"}]"
+
 typedef struct state {
     jsonptr_document document, other;
+    jsonptr_text text;
     char out[1024];
 } state;
 
@@ -141,6 +146,80 @@ static jsonptr_status no_value(state *s) {
     return status == JSONPTR_NO_VALUE ? JSONPTR_OK : status;
 }
 
+static jsonptr_status open_text(state *s) {
+    return jsonptr_text_open(&s->text, JSONPTR_FORMAT_JSONC, TEXT(SETTINGS), NULL);
+}
+
+static jsonptr_status open_json(state *s) {
+    return jsonptr_text_open(&s->text, JSONPTR_FORMAT_JSON, TEXT(DOCUMENT), NULL);
+}
+
+/* A text that is not JSON, which is read again for the offset. */
+static jsonptr_status open_none(state *s) {
+    jsonptr_status status = jsonptr_text_open(&s->text, JSONPTR_FORMAT_JSONC, TEXT("[1, /* a */ x]"), NULL);
+    return status == JSONPTR_NOT_JSON ? JSONPTR_OK : status;
+}
+
+static jsonptr_status assign_text(state *s) {
+    return jsonptr_text_assign(&s->text, TEXT("/new~1member/-/of/0"), TEXT("[\"a value\", {\"z\": 1.10}]"), 0, NULL, NULL);
+}
+
+static jsonptr_status not_assign_text(state *s) {
+    jsonptr_status status = jsonptr_text_assign(&s->text, TEXT("/a~1b/9"), TEXT("[\"a value\"]"), 0, NULL, NULL);
+    return status == JSONPTR_NOT_ASSIGNED ? JSONPTR_OK : status;
+}
+
+static jsonptr_status delete_text(state *s) {
+    return jsonptr_text_delete(&s->text, TEXT("/a~1b/0"), 0, NULL, NULL, NULL);
+}
+
+static jsonptr_status delete_nothing(state *s) {
+    bool found = true;
+    jsonptr_status status = jsonptr_text_delete(&s->text, TEXT("/a~1b/9"), 0, &found, NULL, NULL);
+    expect_number("found", "delete_nothing", found, status != JSONPTR_OK);
+    return status;
+}
+
+static jsonptr_status rename_text(state *s) {
+    return jsonptr_text_rename(&s->text, TEXT("/a~1b"), TEXT("another name"), 0, NULL, NULL);
+}
+
+static jsonptr_status not_rename_text(state *s) {
+    jsonptr_status status = jsonptr_text_rename(&s->text, TEXT("/none~1"), TEXT("another name"), 0, NULL, NULL);
+    return status == JSONPTR_NOT_RENAMED ? JSONPTR_OK : status;
+}
+
+static jsonptr_status patch_text(state *s) {
+    return jsonptr_text_patch(&s->text, TEXT(EDITS), JSONPTR_REFORMAT, NULL, NULL);
+}
+
+static jsonptr_status fail_text(state *s) {
+    jsonptr_status status = jsonptr_text_patch(
+        &s->text, TEXT("[{\"op\":\"remove\",\"path\":\"/a~1b/1\"},{\"op\":\"move\",\"from\":\"/a~1b/1\",\"path\":\"/x/y\"}]"), 0, NULL, NULL);
+    return status == JSONPTR_PATCH_FAILED ? JSONPTR_OK : status;
+}
+
+static jsonptr_status reformat_text(state *s) {
+    jsonptr_status status = jsonptr_text_open(&s->text, JSONPTR_FORMAT_JSONC, TEXT(SETTINGS), NULL);
+    return status != JSONPTR_OK ? status : jsonptr_text_patch(&s->text, TEXT("[{\"op\":\"move\",\"from\":\"/a~1b\",\"path\":\"/x\"}]"), JSONPTR_REFORMAT, NULL, NULL);
+}
+
+static jsonptr_status locate_text(state *s) {
+    return jsonptr_text_locate(&s->text, TEXT("/a~1b/1/c"), NULL, NULL, NULL);
+}
+
+static jsonptr_status point_text(state *s) {
+    return jsonptr_text_pointer_at(&s->text, 30, s->out, sizeof s->out, NULL, NULL);
+}
+
+static jsonptr_status strip_text(state *s) {
+    return jsonptr_text_remove_comments(&s->text, NULL);
+}
+
+static jsonptr_status copy_text(state *s) {
+    return jsonptr_text_copy(&s->text, 0, SIZE_MAX, s->out, sizeof s->out, NULL, NULL);
+}
+
 static jsonptr_status token(state *s) {
     return jsonptr_pointer_token(TEXT("/a~1b"), 0, s->out, sizeof s->out, NULL, NULL);
 }
@@ -166,6 +245,11 @@ static const struct {
     { "parse", parse }, { "exact", exact }, { "not_exact", not_exact }, { "lost_number", lost_number }, { "not_json", not_json }, { "not_located", not_located }, { "print", print }, { "get", get }, { "string", string }, { "node", node }, { "assign", assign },
     { "delete", delete }, { "patch", patch }, { "fail", fail }, { "inverse", inverse }, { "diff", diff }, { "in_text", in_text },
     { "locate", locate }, { "pointer_at", pointer_at }, { "no_value", no_value }, { "token", token },
+    { "open_text", open_text }, { "open_json", open_json }, { "open_none", open_none }, { "assign_text", assign_text },
+    { "not_assign_text", not_assign_text }, { "delete_text", delete_text }, { "delete_nothing", delete_nothing },
+    { "rename_text", rename_text }, { "not_rename_text", not_rename_text }, { "patch_text", patch_text },
+    { "fail_text", fail_text }, { "reformat_text", reformat_text }, { "copy_text", copy_text }, { "locate_text", locate_text },
+    { "point_text", point_text }, { "strip_text", strip_text },
     { "escape", escape }, { "push", push }, { "message", message },
 };
 
@@ -174,19 +258,21 @@ int main(void) {
     for (size_t i = 0; i < sizeof calls / sizeof *calls; i++) {
         jsonptr_status status = JSONPTR_NO_MEMORY;
         for (long round = 0; status == JSONPTR_NO_MEMORY; round++) {
-            state s = { .document = parsed(DOCUMENT), .other = parsed(OTHER) };
+            state s = { .document = parsed(DOCUMENT), .other = parsed(OTHER), .text = opened(JSONPTR_FORMAT_JSONC, SETTINGS) };
             left = round;
             status = calls[i].call(&s);
             left = -1;
             if (status == JSONPTR_NO_MEMORY) {
                 expect_document(calls[i].name, &s.document, DOCUMENT);
                 expect_document(calls[i].name, &s.other, OTHER);
+                expect_open_text(calls[i].name, &s.text, SETTINGS);
                 total++;
             } else {
                 expect_number("status", calls[i].name, status, JSONPTR_OK);
             }
             jsonptr_document_free(&s.document);
             jsonptr_document_free(&s.other);
+            jsonptr_text_free(&s.text);
             expect_number("blocks left", calls[i].name, (unsigned long long)blocks, 0);
         }
     }

@@ -1,4 +1,4 @@
-/* The calls that only read a document write neither to it nor to its handle: both are in pages that no one may write to, so
+/* The calls that only read a document or a text write neither to it nor to its handle: both are in pages that no one may write to, so
  * that a write ends the test. The linker calls these functions in place of malloc, realloc and free. */
 #define _DEFAULT_SOURCE /* for MAP_ANONYMOUS */
 #include "tests.h"
@@ -11,9 +11,10 @@ void *__real_malloc(size_t size);
 void *__real_realloc(void *block, size_t size);
 void __real_free(void *block);
 
-/* The pages of the documents and of their handles, and how many bytes of them are taken. */
+/* The pages of the documents, of the text and of their handles, and how many bytes of them are taken. */
 typedef struct pages {
     jsonptr_document from, to;
+    jsonptr_text text;
     char blocks[ROOM];
 } pages;
 
@@ -72,6 +73,13 @@ static void read_all(void) {
         }
         jsonptr_status status = jsonptr_document_node(&kept->from, TEXT(POINTERS[i]), &node, &error);
         expect_number("status of a node", POINTERS[i], status, error.status);
+        status = jsonptr_text_locate(&kept->text, TEXT(POINTERS[i]), &length, NULL, &error);
+        expect_number("status of locating", POINTERS[i], status, error.status);
+    }
+    for (size_t i = 0; i < 130; i++) {
+        jsonptr_status status = jsonptr_text_pointer_at(&kept->text, i, out, sizeof out, &length, &error);
+        expect_number("status of an offset", "the text", status, error.status);
+        expect_number("status of a part", "the text", jsonptr_text_copy(&kept->text, i, i + 5, out, sizeof out, &length, NULL), 0);
     }
     expect_number("status of a difference", "both", jsonptr_document_diff(&kept->from, &kept->to, 0, out, sizeof out, &length, NULL), 0);
     expect_number("status of a short difference", "both", jsonptr_document_diff(&kept->to, &kept->from, 0, out, 1, &length, NULL),
@@ -87,8 +95,9 @@ int main(void) {
     is_open = true;
     expect_number("reading", text, jsonptr_document_parse(&kept->from, TEXT(text), NULL), JSONPTR_OK);
     expect_number("reading", "[]", jsonptr_document_parse(&kept->to, TEXT("{\"a/b\": [1, {\"d\": 5}], \"new\": null}"), NULL), JSONPTR_OK);
+    expect_number("opening", "a text", jsonptr_text_open(&kept->text, JSONPTR_FORMAT_JSONC, TEXT("// one\n{\"a/b\": [1.5, {\"c\": /* two */ 5},], \"text\": \"a string that is stored\"}"), NULL), JSONPTR_OK);
     is_open = false;
-    expect_number("the document is in the pages", text, is_kept(kept->from.private_address) && is_kept(kept->to.private_address), 1);
+    expect_number("the document is in the pages", text, is_kept(kept->from.private_address) && is_kept(kept->to.private_address) && is_kept(kept->text.private_address), 1);
     expect_number("status", "before", jsonptr_document_print(&kept->from, 0, out, sizeof out, &length, NULL), JSONPTR_OK);
     expect_number("mprotect", "reading alone", (unsigned long long)mprotect(kept, sizeof *kept, PROT_READ), 0);
     read_all();
@@ -98,5 +107,6 @@ int main(void) {
     expect_number("mprotect", "again", (unsigned long long)mprotect(kept, sizeof *kept, PROT_READ | PROT_WRITE), 0);
     jsonptr_document_free(&kept->from);
     jsonptr_document_free(&kept->to);
+    jsonptr_text_free(&kept->text);
     return report("reads");
 }

@@ -922,6 +922,243 @@ static void check_handles(void) {
     jsonptr_document_free(&document);
 }
 
+/* Edits of texts. `value` is a value, a key or a patch, and `new` the text afterwards, or NULL if it is unchanged. Of one that is
+ * changed `start`, `old_end` and `new_end` are the bytes that differ. */
+#define BOM "\xEF\xBB\xBF"
+#define JSON JSONPTR_FORMAT_JSON
+#define JSONC JSONPTR_FORMAT_JSONC
+#define TWO_KEYS "{\"a\": 1.0, // one\n \"a\": 2, \"b\": 3}"
+
+enum kind { ASSIGN, DELETE, RENAME, PATCH };
+
+static const struct {
+    enum kind call;
+    uint32_t format;
+    const char *text, *pointer, *value;
+    uint32_t flags;
+    jsonptr_status status;
+    const char *new;
+    size_t start, old_end, new_end;
+} text_edits[] = {
+    { ASSIGN, JSON, "{\"a\" : 1.00,  \"b\":[ 1e5 ] }", "/a", "2.50", 0, JSONPTR_OK, "{\"a\" : 2.50,  \"b\":[ 1e5 ] }", 7, 10, 10 },
+    { ASSIGN, JSON, "{\"a\": 1}", "/b", "{\"z\": 1.10, \"y\": 2}", 0, JSONPTR_OK, "{\"a\": 1, \"b\": {\"z\": 1.10, \"y\": 2}}", 7, 7, 33 },
+    { ASSIGN, JSON, "[1, 2]", "", "null", 0, JSONPTR_OK, "null", 0, 6, 4 },
+    { ASSIGN, JSON, "[1, 2]", "/5", "3", 0, JSONPTR_NOT_ASSIGNED, NULL, 0, 0, 0 },
+    { ASSIGN, JSON, "[1, 2]", "/x", "3", 0, JSONPTR_NOT_ASSIGNED, NULL, 0, 0, 0 },
+    { ASSIGN, JSON, "[1, 2]", "x", "3", 0, JSONPTR_NOT_POINTER, NULL, 0, 0, 0 },
+    { ASSIGN, JSON, "[1, 2]", "x", "3 // c", 0, JSONPTR_NOT_JSON, NULL, 0, 0, 0 },
+    { ASSIGN, JSON, "[1, 2]", "/\xff", "3", 0, JSONPTR_NOT_UTF8, NULL, 0, 0, 0 },
+    { ASSIGN, JSON, "[1, 2]", "/0", "\"\xff\"", 0, JSONPTR_NOT_UTF8, NULL, 0, 0, 0 },
+    { ASSIGN, JSON, "[\"\xC3\xA9\"]", "/0", "\"\xC3\xA8\"", 0, JSONPTR_OK, "[\"\xC3\xA8\"]", 2, 4, 4 },
+    { ASSIGN, JSON, BOM "[1]", "/0", "22", 0, JSONPTR_OK, BOM "[22]", 4, 5, 6 },
+    { ASSIGN, JSONC, "{\n  \"a\": 3, // px\n}\n", "/a", "4.0", 0, JSONPTR_OK, "{\n  \"a\": 4.0, // px\n}\n", 9, 10, 12 },
+    { ASSIGN, JSONC, "{\n  \"a\": 3, // px\n}\n", "/b", "[]", 0, JSONPTR_OK, "{\n  \"a\": 3, // px\n  \"b\": [],\n}\n", 18, 18, 29 },
+    { ASSIGN, JSONC, BOM "[1, /* b */ 2,]", "/1", "3", 0, JSONPTR_OK, BOM "[1, /* b */ 3,]", 15, 16, 16 },
+    { DELETE, JSON, "{\"a\": 1, \"b\": 2}", "/a", NULL, 0, JSONPTR_OK, "{\"b\": 2}", 2, 10, 2 },
+    { DELETE, JSON, "[1, 2]", "/2", NULL, 0, JSONPTR_OK, NULL, 0, 0, 0 },
+    { DELETE, JSON, "[1, 2]", "/-", NULL, JSONPTR_REFORMAT, JSONPTR_OK, NULL, 0, 0, 0 },
+    { DELETE, JSON, "[1, 2]", "", NULL, 0, JSONPTR_OK, "null", 0, 6, 4 },
+    { DELETE, JSON, "[1, 2]", "2", NULL, 0, JSONPTR_NOT_POINTER, NULL, 0, 0, 0 },
+    { DELETE, JSONC, "[\n  1, // one\n  2, // two\n  3\n]\n", "/1", NULL, 0, JSONPTR_OK, "[\n  1, // one\n  3\n]\n", 16, 28, 16 },
+    { DELETE, JSONC, TWO_KEYS, "/a", NULL, 0, JSONPTR_NOT_IN_PLACE, NULL, 0, 0, 0 },
+    { DELETE, JSONC, TWO_KEYS, "/a", NULL, JSONPTR_REFORMAT, JSONPTR_OK, "{\"b\":3}", 2, 32, 5 },
+    { RENAME, JSON, "{\"a\": 1.0, \"b\": 2}", "/a", "cc", 0, JSONPTR_OK, "{\"cc\": 1.0, \"b\": 2}", 2, 3, 4 },
+    { RENAME, JSON, "{\"a\": 1.0, \"b\": 2}", "/a", "a", 0, JSONPTR_OK, "{\"a\": 1.0, \"b\": 2}", 18, 18, 18 },
+    { RENAME, JSON, "{\"a\": 1.0, \"b\": 2}", "/a", "b", 0, JSONPTR_NOT_RENAMED, NULL, 0, 0, JSONPTR_KIND_KEY_TAKEN },
+    { RENAME, JSON, "{\"a\": 1.0, \"b\": 2}", "/c", "d", 0, JSONPTR_NOT_RENAMED, NULL, 0, 0, JSONPTR_KIND_NOTHING_THERE },
+    { RENAME, JSON, "[{\"a\": 1}]", "/0", "d", 0, JSONPTR_NOT_RENAMED, NULL, 0, 0, JSONPTR_KIND_NOT_A_MEMBER },
+    { RENAME, JSON, "[{\"a\": 1}]", "", "d", 0, JSONPTR_NOT_RENAMED, NULL, 0, 0, JSONPTR_KIND_NOT_A_MEMBER },
+    { RENAME, JSON, "[{\"a\": 1}]", "/0/a", "\xff", 0, JSONPTR_NOT_UTF8, NULL, 0, 0, 0 },
+    { RENAME, JSONC, "{ /* a */ \"a\" /* b */ : 1 }", "/a", "b", 0, JSONPTR_OK, "{ /* a */ \"b\" /* b */ : 1 }", 11, 12, 12 },
+    { RENAME, JSON, "{\"a\": 1, \"a\": 2}", "/a", "b", 0, JSONPTR_NOT_IN_PLACE, NULL, 0, 0, 0 },
+    { RENAME, JSON, "{\"a\": 1, \"a\": 2}", "/a", "b", JSONPTR_REFORMAT, JSONPTR_OK, "{\"b\":2}", 2, 14, 5 },
+    { PATCH, JSON, "{\"a\": [ 2 ],\n \"b\": 1e5}\n", "", "[{\"op\": \"move\", \"from\": \"/b\", \"path\": \"/a/0\"}]", 0, JSONPTR_OK, "{\"a\": [ 1e5, 2 ]}\n", 8, 22, 16 },
+    { PATCH, JSON, "[1]", "", "[{\"op\": \"test\", \"path\": \"/0\", \"value\": 2}]", 0, JSONPTR_PATCH_FAILED, NULL, 0, 0, JSONPTR_KIND_TEST_FAILED },
+    { PATCH, JSON, "[1]", "", "[{\"op\": \"tst\", \"path\": \"/0\", \"value\": 2}]", 0, JSONPTR_NOT_PATCH, NULL, 0, 0, JSONPTR_KIND_UNKNOWN_OP },
+    { PATCH, JSON, "[1]", "", "[{]", 0, JSONPTR_NOT_JSON, NULL, 0, 0, 0 },
+    { PATCH, JSON, "[1]", "", "[\"\xff\"]", 0, JSONPTR_NOT_UTF8, NULL, 0, 0, 0 },
+    { PATCH, JSONC, "[1, // one\n 2]", "", "[{\"op\": \"add\", \"path\": \"/-\", \"value\": 3.0}, {\"op\": \"remove\", \"path\": \"/1\"}]", 0, JSONPTR_OK, "[1, // one\n 3.0]", 12, 13, 15 },
+};
+
+/* Makes an edit. */
+static jsonptr_status edit_text(jsonptr_text *text, size_t i, bool *found, jsonptr_change *change, jsonptr_error *error) {
+    const char *pointer = text_edits[i].pointer, *value = text_edits[i].value;
+    switch (text_edits[i].call) {
+    case ASSIGN:
+        return jsonptr_text_assign(text, TEXT(pointer), TEXT(value), text_edits[i].flags, change, error);
+    case DELETE:
+        return jsonptr_text_delete(text, TEXT(pointer), text_edits[i].flags, found, change, error);
+    case RENAME:
+        return jsonptr_text_rename(text, TEXT(pointer), TEXT(value), text_edits[i].flags, change, error);
+    default:
+        return jsonptr_text_patch(text, TEXT(value), text_edits[i].flags, change, error);
+    }
+}
+
+static void check_text_edits(void) {
+    for (size_t i = 0; i < COUNT(text_edits); i++) {
+        const char *old = text_edits[i].text, *new = text_edits[i].new;
+        jsonptr_text text = opened(text_edits[i].format, old);
+        jsonptr_change change = { 91, 92, 93, true, 94 };
+        jsonptr_error error;
+        bool found = text_edits[i].status != JSONPTR_OK;
+        jsonptr_status status = edit_text(&text, i, &found, &change, &error);
+        expect_number("status", old, status, text_edits[i].status);
+        expect_number("status of the error", old, error.status, text_edits[i].status);
+        expect_open_text(old, &text, new != NULL ? new : old);
+        if (new != NULL) {
+            expect_number("start", old, change.start, text_edits[i].start);
+            expect_number("old end", old, change.old_end, text_edits[i].old_end);
+            expect_number("new end", old, change.new_end, text_edits[i].new_end);
+            expect_number("reformatted", old, change.is_reformatted, strstr(old, "\"a\": 2") != NULL && text_edits[i].flags != 0);
+            expect_number("reserved", old, change.reserved, 0);
+        } else {
+            expect_number("start of an error", old, change.start, 91);
+            if (text_edits[i].new_end != 0) {
+                expect_number("kind", old, error.kind, text_edits[i].new_end);
+            }
+        }
+        if (text_edits[i].call == DELETE) {
+            expect_number("found", old, found, new != NULL || status != JSONPTR_OK);
+        }
+        jsonptr_text_free(&text);
+    }
+}
+
+/* Texts that are not opened. */
+static const struct {
+    uint32_t format;
+    const char *text;
+    jsonptr_status status;
+    uint32_t kind;
+    uint64_t offset;
+} not_opened[] = {
+    { JSON, "[1, // one\n 2]", JSONPTR_NOT_JSON, 0, 4 }, { JSON, "", JSONPTR_NOT_JSON, 0, 0 }, { JSON, "[1,]", JSONPTR_NOT_JSON, 0, 3 },
+    { JSONC, "[1,, 2]", JSONPTR_NOT_JSON, 0, 3 }, { JSONC, "/* a */ [1,] // b", JSONPTR_OK, 0, 0 }, { JSONC, "[1] /* b", JSONPTR_NOT_JSON, JSONPTR_KIND_OPEN_COMMENT, 4 },
+    { JSONC, BOM "[1] /* b", JSONPTR_NOT_JSON, JSONPTR_KIND_OPEN_COMMENT, 7 }, { JSON, BOM "[x]", JSONPTR_NOT_JSON, 0, 4 }, { JSON, BOM BOM "[1]", JSONPTR_NOT_JSON, 0, 3 },
+    { JSON, "[\"\xff\"]", JSONPTR_NOT_UTF8, 0, 2 }, { JSON, BOM "1", JSONPTR_OK, 0, 0 },
+};
+
+static void check_opening(void) {
+    for (size_t i = 0; i < COUNT(not_opened); i++) {
+        const char *about = not_opened[i].text;
+        jsonptr_text text = opened(JSON, "[\"before\"]");
+        jsonptr_error error;
+        expect_number("status", about, jsonptr_text_open(&text, not_opened[i].format, TEXT(about), &error), not_opened[i].status);
+        expect_number("status of the error", about, error.status, not_opened[i].status);
+        expect_number("kind", about, error.kind, not_opened[i].kind);
+        expect_number("offset", about, error.offset, not_opened[i].offset);
+        expect_number("member", about, error.member, error.status == JSONPTR_NOT_UTF8 ? JSONPTR_ARGUMENT_TEXT : 0);
+        expect_open_text(about, &text, error.status == JSONPTR_OK ? about : "[\"before\"]");
+        jsonptr_text_free(&text);
+    }
+}
+
+/* Where values are in a text, and which value is at an offset: `pointer` is from `start` up to `end`. */
+static const struct {
+    uint32_t format;
+    const char *text, *pointer;
+    size_t start, end;
+} text_places[] = {
+    { JSON, "[1.0, {\"a\": 2 }]", "/0", 1, 4 }, { JSON, "[1.0, {\"a\": 2 }]", "/1", 6, 15 }, { JSON, "[1.0, {\"a\": 2 }]", "/1/a", 12, 13 },
+    { JSON, BOM " [1.0]", "/0", 5, 8 }, { JSONC, "// one\n[1.0, /* two */ 2,]", "/1", 23, 24 }, { JSONC, BOM "/**/ [\"\xC3\xA9\"]", "/0", 9, 13 },
+    { JSONC, "[/* a */]", "", 0, 9 },
+};
+
+static void check_text_places(void) {
+    for (size_t i = 0; i < COUNT(text_places); i++) {
+        const char *about = text_places[i].text;
+        jsonptr_text text = opened(text_places[i].format, about);
+        jsonptr_error error;
+        char out[16];
+        size_t start = 9, end = 9, length = 9;
+        expect_number("status", about, jsonptr_text_locate(&text, TEXT(text_places[i].pointer), &start, &end, &error), JSONPTR_OK);
+        expect_number("start", about, start, text_places[i].start);
+        expect_number("end", about, end, text_places[i].end);
+        expect_number("status", about, jsonptr_text_pointer_at(&text, text_places[i].start, out, sizeof out, &length, &error), JSONPTR_OK);
+        expect_text("pointer", about, out, length, text_places[i].pointer);
+        expect_number("status", about, jsonptr_text_pointer_at(&text, text_places[i].end - 1, out, sizeof out, &length, &error), JSONPTR_OK);
+        expect_text("pointer", about, out, length, text_places[i].pointer);
+        start = end = 9;
+        expect_number("status", about, jsonptr_text_locate(&text, TEXT("/none/0"), &start, &end, &error), JSONPTR_NOT_FOUND);
+        expect_number("start and end", about, start + end, 18);
+        expect_number("status", about, jsonptr_text_locate(&text, TEXT("none"), NULL, NULL, &error), JSONPTR_NOT_POINTER);
+        expect_number("status", about, jsonptr_text_pointer_at(&text, strlen(about), out, sizeof out, &length, &error), JSONPTR_NO_VALUE);
+        expect_number("offset", about, error.offset, strlen(about));
+        if (strncmp(about, BOM, 3) == 0) {
+            expect_number("status", about, jsonptr_text_pointer_at(&text, 2, out, sizeof out, &length, &error), JSONPTR_NO_VALUE);
+            expect_number("offset", about, error.offset, 2);
+        }
+        if (text_places[i].pointer[0] != 0) {
+            expect_number("status", about, jsonptr_text_pointer_at(&text, text_places[i].start, out, 1, &length, &error), JSONPTR_NO_ROOM);
+            expect_number("needed", about, length, strlen(text_places[i].pointer));
+        }
+        expect_number("status", about, jsonptr_text_remove_comments(&text, &error), JSONPTR_OK);
+        expect_number("status", about, jsonptr_text_locate(&text, TEXT(text_places[i].pointer), &start, &end, &error), JSONPTR_OK);
+        expect_number("start", about, start, text_places[i].start);
+        expect_number("reopened", about, jsonptr_text_open(&text, JSON, TEXT(about), NULL), text_places[i].format == JSON ? JSONPTR_OK : JSONPTR_NOT_JSON);
+        jsonptr_text_free(&text);
+    }
+    jsonptr_text text = opened(JSONC, BOM "[1, // one\n 2,]");
+    expect_number("status", "remove", jsonptr_text_remove_comments(&text, NULL), JSONPTR_OK);
+    expect_open_text("removed", &text, BOM "[1,       \n 2 ]");
+    expect_number("status", "remove again", jsonptr_text_remove_comments(&text, NULL), JSONPTR_OK);
+    expect_open_text("removed again", &text, BOM "[1,       \n 2 ]");
+    expect_number("status", "json", jsonptr_text_assign(&text, "/0", 2, "3", 1, 0, NULL, NULL), JSONPTR_OK);
+    expect_open_text("json", &text, BOM "[3,       \n 2 ]");
+    jsonptr_text_free(&text);
+    expect_number("status", "an empty handle", jsonptr_text_remove_comments(&text, NULL), JSONPTR_NO_DOCUMENT);
+    expect_number("status", "an empty handle", jsonptr_text_locate(&text, "x", 1, NULL, NULL, NULL), JSONPTR_NO_DOCUMENT);
+    expect_number("status", "an empty handle", jsonptr_text_pointer_at(&text, 0, NULL, 0, NULL, NULL), JSONPTR_NO_DOCUMENT);
+}
+
+/* Parts of a text, handles that hold none, messages, and a text that would nest too deep. */
+static void check_text_handles(void) {
+    jsonptr_text text = JSONPTR_TEXT_INIT;
+    jsonptr_error error;
+    char out[300];
+    size_t length = 9;
+    bool found = true;
+    jsonptr_text_free(&text);
+    jsonptr_text_free(NULL);
+    expect_number("copy", "an empty handle", jsonptr_text_copy(&text, 0, 9, out, 9, &length, &error), JSONPTR_NO_DOCUMENT);
+    expect_number("length", "an empty handle", length, 9);
+    expect_number("assign", "an empty handle", jsonptr_text_assign(&text, "", 0, "1", 1, 0, NULL, NULL), JSONPTR_NO_DOCUMENT);
+    expect_number("assign of no value", "an empty handle", jsonptr_text_assign(&text, "x", 1, "[", 1, 0, NULL, NULL), JSONPTR_NOT_JSON);
+    expect_number("delete", "an empty handle", jsonptr_text_delete(&text, "x", 1, 0, &found, NULL, NULL), JSONPTR_NO_DOCUMENT);
+    expect_number("found", "an empty handle", found, true);
+    expect_number("rename", "an empty handle", jsonptr_text_rename(&text, "x", 1, "a", 1, 0, NULL, NULL), JSONPTR_NO_DOCUMENT);
+    expect_number("patch", "an empty handle", jsonptr_text_patch(&text, "[]", 2, 0, NULL, NULL), JSONPTR_NO_DOCUMENT);
+    text = opened(JSON, "[1.0, 2]");
+    expect_number("part", "[1.0, 2]", jsonptr_text_copy(&text, 1, 4, out, sizeof out, &length, NULL), JSONPTR_OK);
+    expect_text("part", "[1.0, 2]", out, length, "1.0");
+    expect_number("end", "[1.0, 2]", jsonptr_text_copy(&text, 6, 99, out, sizeof out, &length, NULL), JSONPTR_OK);
+    expect_text("end", "[1.0, 2]", out, length, "2]");
+    expect_number("past the end", "[1.0, 2]", jsonptr_text_copy(&text, 98, 99, NULL, 0, &length, NULL), JSONPTR_OK);
+    expect_number("past the end", "[1.0, 2]", length, 0);
+    expect_number("end before start", "[1.0, 2]", jsonptr_text_copy(&text, 4, 2, NULL, 0, &length, NULL), JSONPTR_OK);
+    expect_number("end before start", "[1.0, 2]", length, 0);
+    expect_number("short", "[1.0, 2]", jsonptr_text_copy(&text, 0, SIZE_MAX, out, 7, &length, &error), JSONPTR_NO_ROOM);
+    expect_number("needed", "[1.0, 2]", length, 8);
+    expect_number("needed", "the error", error.length, 8);
+    char deep[256];
+    memset(deep, '[', 127);
+    memset(deep + 127, ']', 127);
+    expect_number("127 arrays in an array", "[1.0, 2]", jsonptr_text_assign(&text, "/0", 2, deep, 254, 0, NULL, &error), JSONPTR_TOO_DEEP);
+    expect_number("kind", "127 arrays in an array", error.kind, JSONPTR_KIND_TEXT_TOO_DEEP);
+    expect_message("127 arrays in an array", &error, "the text would nest deeper than 127");
+    expect_number("127 arrays", "[1.0, 2]", jsonptr_text_assign(&text, "", 0, deep, 254, 0, NULL, &error), JSONPTR_OK);
+    expect_number("open again", "[1]", jsonptr_text_open(&text, JSONC, "[1] // a", 8, &error), JSONPTR_OK);
+    expect_open_text("open again", &text, "[1] // a");
+    expect_number("an open comment", "/*", jsonptr_text_open(&text, JSONC, "1/*", 3, &error), JSONPTR_NOT_JSON);
+    expect_message("an open comment", &error, "comment is not closed");
+    expect_number("rename", "[1]", jsonptr_text_rename(&text, "/0", 2, "a", 1, 0, NULL, &error), JSONPTR_NOT_RENAMED);
+    expect_message("rename", &error, "rename failed: value is not a member of an object");
+    error = (jsonptr_error){ .status = JSONPTR_NOT_IN_PLACE };
+    expect_message("not in place", &error, "the edit is possible, but not in place");
+    jsonptr_text_free(&text);
+}
+
 /* The version of the library is that of the header. */
 static void check_version(void) {
     expect_text("version", "the library", jsonptr_version(), strlen(jsonptr_version()), JSONPTR_VERSION);
@@ -948,5 +1185,9 @@ int main(void) {
     check_failing_inverses();
     check_differences();
     check_handles();
+    check_text_edits();
+    check_opening();
+    check_text_places();
+    check_text_handles();
     return report("tables");
 }

@@ -53,6 +53,22 @@ static inline jsonptr_document parsed(const char *text) {
     return document;
 }
 
+/* Opens a text. */
+static inline jsonptr_text opened(uint32_t format, const char *bytes) {
+    jsonptr_text text = JSONPTR_TEXT_INIT;
+    expect_number("status of opening", bytes, jsonptr_text_open(&text, format, TEXT(bytes), NULL), JSONPTR_OK);
+    return text;
+}
+
+/* Checks what a text is. */
+static inline void expect_open_text(const char *about, const jsonptr_text *text, const char *wanted) {
+    char out[1024];
+    size_t length = 0;
+    expect_number("status of the copy", about, jsonptr_text_copy(text, 0, SIZE_MAX, out, sizeof out, &length, NULL),
+                  JSONPTR_OK);
+    expect_text("copy", about, out, length, wanted);
+}
+
 /* Reports the number of failures, and returns the status of the program. */
 static inline int report(const char *name) {
     if (failures == 0) {

@@ -8,8 +8,9 @@
 
 /* What all threads read at once. */
 static jsonptr_document shared = JSONPTR_DOCUMENT_INIT, other = JSONPTR_DOCUMENT_INIT;
+static jsonptr_text shared_text = JSONPTR_TEXT_INIT;
 
-/* Reads the shared document by each call that only reads, and returns the number of wrong results. */
+/* Reads the shared document and the shared text by each call that only reads, and returns the number of wrong results. */
 static size_t read_shared(void) {
     char out[64];
     size_t length = 0, wrong = 0;
@@ -20,6 +21,10 @@ static size_t read_shared(void) {
     wrong += jsonptr_document_get(&shared, "/b", 2, 0, out, sizeof out, &length, NULL) != JSONPTR_NOT_FOUND;
     wrong += jsonptr_document_diff(&shared, &other, 0, out, sizeof out, &length, NULL) != JSONPTR_OK;
     wrong += strcmp(out, "[{\"op\":\"remove\",\"path\":\"/a/1\"}]") != 0;
+    size_t start = 0;
+    wrong += jsonptr_text_locate(&shared_text, "/1", 2, &start, NULL, NULL) != JSONPTR_OK || start != 14;
+    wrong += jsonptr_text_pointer_at(&shared_text, 14, out, sizeof out, &length, NULL) != JSONPTR_OK || strcmp(out, "/1") != 0;
+    wrong += jsonptr_text_copy(&shared_text, 14, 15, out, sizeof out, &length, NULL) != JSONPTR_OK || strcmp(out, "2") != 0;
     return wrong;
 }
 
@@ -40,6 +45,12 @@ static void *run(void *number) {
                  != JSONPTR_OK;
         wrong += length != (size_t)wanted_length || memcmp(out, wanted, length) != 0;
         wrong += read_shared();
+        jsonptr_text edited = JSONPTR_TEXT_INIT;
+        wrong += jsonptr_text_open(&edited, JSONPTR_FORMAT_JSON, text, (size_t)text_length, NULL) != JSONPTR_OK;
+        wrong += jsonptr_text_assign(&edited, "/a/0", 4, wanted, (size_t)wanted_length, 0, NULL, NULL) != JSONPTR_OK;
+        wrong += jsonptr_text_copy(&edited, 7, 7 + (size_t)wanted_length, out, sizeof out, &length, NULL) != JSONPTR_OK;
+        wrong += length != (size_t)wanted_length || memcmp(out, wanted, length) != 0;
+        jsonptr_text_free(&edited);
         jsonptr_document_free(&document);
     }
     return (void *)wrong;
@@ -50,6 +61,7 @@ int main(void) {
     int numbers[THREADS];
     shared = parsed("{\"a\": [1, \"two\"]}");
     other = parsed("{\"a\": [1]}");
+    shared_text = opened(JSONPTR_FORMAT_JSONC, "[1, /* one */ 2]");
     for (int i = 0; i < THREADS; i++) {
         numbers[i] = i;
         expect_number("start", "a thread", (unsigned long long)pthread_create(&threads[i], NULL, run, &numbers[i]), 0);
@@ -61,5 +73,6 @@ int main(void) {
     }
     jsonptr_document_free(&shared);
     jsonptr_document_free(&other);
+    jsonptr_text_free(&shared_text);
     return report("threads");
 }

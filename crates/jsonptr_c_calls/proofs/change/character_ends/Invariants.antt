@@ -1,0 +1,10 @@
+use Rattle.std.proofs.Common.{◌≡◌, ◌≤◌, ◌-◌, drop, length}
+use Rattle.jsonptr_c_calls.proofs.change.character_ends.Given as goal
+
+abbrev pub invariant-loop-i : goal.invariant-loop-i
+invariant-loop-i l =
+    (l.fn.ends.old ≤ l.i) × (l.i ≤ length l.old) × (l.fn.ends.new ≤ l.j) × (l.j ≤ length l.new)
+    × (drop l.i l.old ≡ drop l.j l.new)
+
+abbrev pub decreases-loop-i : goal.decreases-loop-i
+decreases-loop-i l = length l.old - l.i
