@@ -19,7 +19,7 @@ use crate::patch_file::PatchFile;
 use crate::paths::{from_paths, paths};
 use crate::program_error::ProgramError;
 use crate::relayout::relayout;
-use crate::several::{delete_each, get_each, get_rows, get_task, set_each, set_task};
+use crate::several::{assignment_of, delete_each, get_each, get_rows, get_task, set_each};
 use crate::style::{OutputStyle, style_of};
 use crate::task::{checked, on_source, run_styled, run_task, source_result};
 use crate::{generate, toml_file};
@@ -137,8 +137,8 @@ fn set(
     }
     match assigning.assignments.as_slice() {
         [only] if assigning.expands && !assigning.creates => {
-            let task = set_task(rt, options.file, *only)?;
-            run_task(rt, options, task)
+            let edit = assignment_of(rt, options.file, *only)?;
+            run_task(rt, options, Task::Edit(edit))
         }
         _ => set_each(rt, options, assigning),
     }

@@ -74,6 +74,19 @@ pub fn result_with_comments(
     }
 }
 
+/// Returns the error of an edit that is possible in the text with this name, but not in place: with the comment
+/// that it would lose, as far as that is known.
+pub fn edit_loses(
+    alloc: Global,
+    name: &str,
+    texts: BothTexts<'_>,
+    edit: &Edit<'_>,
+    reformats: bool,
+) -> Result<ProgramError, ProgramError> {
+    let text = read(alloc, name, texts.whole)?;
+    Ok(not_in_place(alloc, name, &text, edit, reformats))
+}
+
 /// Returns what is printed for a value that is found in the text without comments. A value that is
 /// neither an array nor an object has no comments in it.
 fn found(alloc: Global, texts: BothTexts<'_>, task: &Task<'_>) -> Result<String, TaskError> {

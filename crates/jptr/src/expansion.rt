@@ -5,8 +5,7 @@ use crate::drawn::missing;
 use crate::program_error::ProgramError;
 use crate::toml_file;
 use jptr_tasks::exit_status::NOT_MADE;
-use jptr_tasks::node::scalar_above;
-use jptr_tasks::task::Task;
+use jptr_tasks::expansion::ExpansionError;
 use jptr_tasks::task_error::TaskError;
 use jsonptr::Pointer;
 use jsonptr_text_edit::Edit;
@@ -23,30 +22,31 @@ const NO_CONTAINER: &str = "; --no-expand creates no container";
 /// What is said of an array or a table that is missing on the way in a TOML document.
 const NO_TABLE: &str = "an array or a table on the way is missing, and --no-expand creates none";
 
-/// Fails if the task would create a container in the JSON text, or replace a scalar by one.
-pub fn check_expansion(
+/// Returns the error of an edit that would create a container in the JSON document, or replace a scalar by one.
+pub fn expansion_error(
     alloc: Global,
-    name: &str,
-    text: &str,
-    task: &Task<'_>,
-) -> Result<(), ProgramError> {
-    let Task::Edit(Edit::Assign(pointer, _)) = task else {
-        return Ok(());
+    before: &Document<'_>,
+    edit: &Edit<'_>,
+    error: ExpansionError,
+) -> ProgramError {
+    let Edit::Assign(pointer, _raw) = edit else {
+        return ProgramError::Memory;
     };
-    match scalar_above(alloc, text, *pointer) {
-        Ok(None) => Ok(()),
-        Ok(Some(_)) => {
-            let drawing = missing(alloc, text.as_bytes(), *pointer);
-            Err(ProgramError::new(alloc, NOT_MADE, name, SCALAR).with_drawing(drawing))
-        }
-        Err(TaskError::NotJson) => Err(ProgramError::of_bytes(alloc, name, text.as_bytes())),
-        Err(error) => Err(ProgramError::of_error_with_hint(
+    match error {
+        ExpansionError::NotJson => before.error(alloc, "", TaskError::NotJson),
+        ExpansionError::NoParent(error) => ProgramError::of_error_with_hint(
             alloc,
-            name,
+            before.name,
             pointer.as_str(),
-            error,
+            TaskError::Resolve(error),
             NO_CONTAINER,
-        ).with_status(NOT_MADE)),
+        )
+        .with_status(NOT_MADE),
+        ExpansionError::Scalar(_) => {
+            let drawing = missing(alloc, before.as_bytes(), *pointer);
+            ProgramError::new(alloc, NOT_MADE, before.name, SCALAR).with_drawing(drawing)
+        }
+        ExpansionError::Memory(_) => ProgramError::Memory,
     }
 }
 

@@ -10,15 +10,16 @@ use crate::toml_file;
 use crate::value_argument::ValueArgument;
 use jptr_tasks::exit_status::{NOT_MADE, USAGE};
 use jptr_tasks::layout::Layout;
-use jptr_tasks::node::{length_in_text, type_in_text};
+use jptr_tasks::node::type_in_text;
+use jptr_tasks::operation::{
+    MoveError, copy_and_remove_patch, copy_patch, move_patch, moves_only_child, own_error,
+    pointer_at_fault,
+};
 use jptr_tasks::task::Task;
 use jptr_tasks::task_error::TaskError;
-use jsonptr::{Pointer, Token};
-use jsonptr_patch::{FailedOperation, Operation, PatchError, PatchPointer, is_proper_prefix};
+use jsonptr::Pointer;
 use jsonptr_text_edit::{Edit, PatchText, RawValue, RenameError};
-use jsonptr_text_resolve::exists_in_text;
-use jsonptr_value::{NodeType, if_json};
-use std::alloc::{AllocError, Global};
+use std::alloc::Global;
 
 /// Why a value is not moved.
 const INTO_SELF: &str = "FROM is a proper prefix of it";
@@ -38,10 +39,9 @@ impl<'a> SingleOperation<'a> {
     /// Returns the pointer that the error is about.
     fn pointer_of(&self, error: &TaskError) -> Pointer<'a> {
         match (error, self.from) {
-            (TaskError::PatchFailed(failed), Some(from)) => match failed.pointer {
-                Some(PatchPointer::From) => from,
-                Some(PatchPointer::Path) | None => self.path,
-            },
+            (TaskError::PatchFailed(failed), Some(from)) => {
+                pointer_at_fault(failed, from, self.path)
+            }
             _ => self.path,
         }
     }
@@ -95,14 +95,14 @@ pub fn move_value(
     check_json(alloc, "move", options.file)?;
     let from = pointer_of(alloc, transfer.from)?;
     let path = pointer_of(alloc, transfer.path)?;
-    if is_proper_prefix(from, path) {
-        return Err(ProgramError::new(alloc, USAGE, "POINTER", INTO_SELF));
-    }
-    let operation = Operation::Move {
-        from: from.to_buf(alloc)?,
-        path: path.to_buf(alloc)?,
+    let patch = match move_patch(alloc, from, path) {
+        Ok(patch) => patch,
+        Err(MoveError::IntoSelf) => {
+            return Err(ProgramError::new(alloc, USAGE, "POINTER", INTO_SELF));
+        }
+        Err(MoveError::Memory(_)) => return Err(ProgramError::Memory),
     };
-    let single = single_operation(alloc, from, path, operation)?;
+    let single = single_operation(from, path, patch);
     if options.lines.is_some() {
         return run_task(rt, options, single.task);
     }
@@ -120,11 +120,7 @@ pub fn copy_value(
     check_json(alloc, "copy", options.file)?;
     let from = pointer_of(alloc, transfer.from)?;
     let path = pointer_of(alloc, transfer.path)?;
-    let operation = Operation::Copy {
-        from: from.to_buf(alloc)?,
-        path: path.to_buf(alloc)?,
-    };
-    let single = single_operation(alloc, from, path, operation)?;
+    let single = single_operation(from, path, copy_patch(alloc, from, path)?);
     if options.lines.is_some() {
         return run_task(rt, options, single.task);
     }
@@ -132,19 +128,17 @@ pub fn copy_value(
     put(rt, &source, &single, style_of(alloc, options)?)
 }
 
-/// Returns the operation on the value at a pointer, which is put at another one.
+/// Returns the operation of the patch, on the value at a pointer, which is put at another one.
 fn single_operation<'a>(
-    alloc: Global,
     from: Pointer<'a>,
     path: Pointer<'a>,
-    operation: Operation,
-) -> Result<SingleOperation<'a>, AllocError> {
-    let patch = PatchText::from_operations(alloc, vec![in alloc; operation]?)?;
-    Ok(SingleOperation {
+    patch: PatchText,
+) -> SingleOperation<'a> {
+    SingleOperation {
         task: Task::Edit(Edit::Patch(patch)),
         from: Some(from),
         path,
-    })
+    }
 }
 
 /// Renames a member. Fails if another member of the object has the key.
@@ -270,60 +264,13 @@ fn only_child_patch(
     source: &Document<'_>,
     operation: &SingleOperation<'_>,
 ) -> Result<Option<PatchText>, ProgramError> {
-    let Some(from) = operation.from else {
+    let (Some(from), path) = (operation.from, operation.path) else {
         return Ok(None);
     };
-    if !moves_only_child(alloc, source, from, operation.path)? {
+    if !moves_only_child(alloc, source.text(alloc)?, from, path)? {
         return Ok(None);
     }
-    let copy = Operation::Copy {
-        from: from.to_buf(alloc)?,
-        path: operation.path.to_buf(alloc)?,
-    };
-    let remove = Operation::Remove {
-        path: from.to_buf(alloc)?,
-    };
-    let patch = PatchText::from_operations(alloc, vec![in alloc; copy, remove]?)?;
-    Ok(Some(patch))
-}
-
-/// Returns whether the value is the only child of an array or an object, and is moved to another key of
-/// that or to its end.
-fn moves_only_child(
-    alloc: Global,
-    source: &Document<'_>,
-    from: Pointer<'_>,
-    path: Pointer<'_>,
-) -> Result<bool, ProgramError> {
-    let (Some(parent), Some(last)) = (from.parent(), path.last()) else {
-        return Ok(false);
-    };
-    if path.parent() != Some(parent) {
-        return Ok(false);
-    }
-    let text = source.text(alloc)?;
-    if if_json(exists_in_text(alloc, text, from))? != Some(true) {
-        return Ok(false);
-    }
-    match is_alone(alloc, text, parent, last) {
-        Ok(alone) => Ok(alone),
-        Err(error) => Err(source.error(alloc, parent.as_str(), error)),
-    }
-}
-
-/// Returns whether the parent has one child, and the token is another place for it: a key of an object, or
-/// the end of an array.
-fn is_alone(
-    alloc: Global,
-    text: &str,
-    parent: Pointer<'_>,
-    token: Token<'_>,
-) -> Result<bool, TaskError> {
-    if length_in_text(alloc, text, parent)? != Some(1) {
-        return Ok(false);
-    }
-    let node_type = type_in_text(alloc, text, parent)?;
-    Ok(matches!(node_type, NodeType::Object) || token.encoded() == "-")
+    Ok(Some(copy_and_remove_patch(alloc, from, path)?))
 }
 
 /// Prints the document after the operation, or replaces the text of the file by it.
@@ -349,11 +296,7 @@ fn put(
 /// Returns the error of the one operation, without its number.
 fn error_of(error: TaskError) -> TaskError {
     match error {
-        TaskError::PatchFailed(FailedOperation { error, pointer }) => match error {
-            PatchError::NoTarget { cause, .. } => TaskError::Resolve(cause),
-            PatchError::BadPlace { cause, .. } => TaskError::Assign(cause),
-            error => TaskError::PatchFailed(FailedOperation { error, pointer }),
-        },
+        TaskError::PatchFailed(failed) => own_error(failed),
         error => error,
     }
 }

@@ -1,9 +1,11 @@
 //! The tasks of `get`, `set` and `delete`, also of several pointers: all of them apply, or nothing is
 //! printed or changed.
 
+use crate::comments::edit_loses;
+use crate::digits::LossError;
 use crate::document::Document;
 use crate::exact_lines::{ExactTask, LineJob};
-use crate::expansion::check_expansion;
+use crate::expansion::expansion_error;
 use crate::invocation::{Assigning, Assignment, Deleting, Finding, LineFlags, Options, ValueWord};
 use crate::operands::pointer_of;
 use crate::output::print_text;
@@ -12,15 +14,15 @@ use crate::rows::{Row, RowForm, row_text};
 use crate::style::{OutputStyle, style_of};
 use crate::task::{
     fallback_of, laid_out, line_name, line_task, result_of, run_job, source_result, task_error,
-    tried,
 };
 use crate::value_argument::{ValueArgument, json_default};
 use jptr_tasks::exit_status::USAGE;
 use jptr_tasks::layout::Layout;
+use jptr_tasks::several::{EditRules, FailedEdit, StepError, edit_each};
 use jptr_tasks::task::Task;
 use jptr_tasks::task_error::TaskError;
 use jsonptr::Pointer;
-use jsonptr_text_edit::Edit;
+use jsonptr_text_edit::{Buffers, Edit};
 use std::alloc::{AllocError, Global};
 
 /// Returns the task of finding the value at the pointer with this text.
@@ -34,15 +36,15 @@ pub fn get_task<'a>(
     Ok(Task::Get(pointer, json_default(alloc, default, is_lossy)?))
 }
 
-/// Returns the task of assigning a value in the document in this file.
-pub fn set_task<'a>(
+/// Returns the edit that assigns a value in the document in this file.
+pub fn assignment_of<'a>(
     rt: &HostRuntime,
     file: Option<&str>,
     assignment: Assignment<'a>,
-) -> Result<Task<'a>, ProgramError> {
+) -> Result<Edit<'a>, ProgramError> {
     let pointer = pointer_of(rt.alloc(), assignment.pointer)?;
     let value = ValueArgument::read(rt, assignment.value, file)?.raw(rt.alloc())?;
-    Ok(Task::Edit(Edit::Assign(pointer, value)))
+    Ok(Edit::Assign(pointer, value))
 }
 
 /// Prints the value that each pointer resolves to, each on its own or all as one object.
@@ -223,16 +225,16 @@ pub fn delete_each(
 ) -> Result<u8, ProgramError> {
     let alloc = rt.alloc();
     check_several(alloc, options)?;
-    let mut tasks = Vec::new(alloc);
+    let mut edits = Vec::new(alloc);
     for text in &deleting.pointers {
-        tasks.push(Task::Edit(Edit::Delete(pointer_of(alloc, *text)?)))?;
+        edits.push(Edit::Delete(pointer_of(alloc, *text)?))?;
     }
-    let rules = EditRules {
+    let rules = SeveralRules {
         style: style_of(alloc, options)?,
         expands: true,
         skips_missing: deleting.skips_missing,
     };
-    edit_each(rt, &Document::open(rt, options)?, tasks.as_slice(), rules)
+    put_each(rt, &Document::open(rt, options)?, edits, rules)
 }
 
 /// Assigns each value at the pointer before it, in order.
@@ -246,22 +248,22 @@ pub fn set_each(
         check_several(alloc, options)?;
     }
     check_values(alloc, assigning.assignments.as_slice())?;
-    let mut tasks = Vec::new(alloc);
+    let mut edits = Vec::new(alloc);
     for assignment in &assigning.assignments {
-        tasks.push(set_task(rt, options.file, *assignment)?)?;
+        edits.push(assignment_of(rt, options.file, *assignment)?)?;
     }
-    let rules = EditRules {
+    let rules = SeveralRules {
         style: style_of(alloc, options)?,
         expands: assigning.expands,
         skips_missing: false,
     };
     let source = Document::open_to_set(rt, options, assigning.creates)?;
-    edit_each(rt, &source, tasks.as_slice(), rules)
+    put_each(rt, &source, edits, rules)
 }
 
-/// How edits are made one after another.
+/// How edits are made one after another, and their result is printed.
 #[derive(Clone, Copy)]
-struct EditRules {
+struct SeveralRules {
     /// How the document is edited and printed.
     style: OutputStyle,
     /// Whether containers are created on the way to a value, and scalars replaced by them.
@@ -270,13 +272,27 @@ struct EditRules {
     skips_missing: bool,
 }
 
-/// Does the tasks one after another on the document, and prints it, or replaces the text of the file by
+impl SeveralRules {
+    /// Returns how each edit of a document is made, with comments or without.
+    fn of_edits(self, has_comments: bool) -> EditRules {
+        let style = self.style.for_edit();
+        EditRules {
+            expands: self.expands,
+            skips_missing: self.skips_missing,
+            reprints: style.reformats,
+            is_lossy: style.is_lossy,
+            has_comments,
+        }
+    }
+}
+
+/// Makes the edits one after another in the document, and prints it, or replaces the text of the file by
 /// it.
-fn edit_each(
+fn put_each(
     rt: &HostRuntime,
     source: &Document<'_>,
-    tasks: &[Task<'_>],
-    rules: EditRules,
+    edits: Vec<Edit<'_>>,
+    rules: SeveralRules,
 ) -> Result<u8, ProgramError> {
     let alloc = rt.alloc();
     let mut rules = rules;
@@ -286,7 +302,7 @@ fn edit_each(
     if rules.style.layout != Layout::Kept {
         source.check_bare(alloc)?;
     }
-    let edited = edited_by_each(alloc, source, tasks, rules)?;
+    let edited = edited_by_each(alloc, source, edits, rules.of_edits(source.has_comments()))?;
     source.put(
         rt,
         laid_out(alloc, source.name, edited, rules.style)?.as_str(),
@@ -294,37 +310,77 @@ fn edit_each(
     Ok(0)
 }
 
-/// Returns the text of the document after the tasks, one after another. Each is done in the text if that
-/// is possible.
+/// Returns the text of the document after the edits, one after another.
 fn edited_by_each(
     alloc: Global,
     source: &Document<'_>,
-    tasks: &[Task<'_>],
+    edits: Vec<Edit<'_>>,
     rules: EditRules,
 ) -> Result<String, ProgramError> {
-    let mut text = source.whole_text(alloc)?;
-    for task in tasks {
-        let before = Document::of(alloc, source.name, source.format(), text.into_bytes())?;
-        if !rules.expands {
-            check_expansion(alloc, before.name, before.text(alloc)?, task)?;
-        }
-        text = edited_by(alloc, &before, task, rules)?;
+    let mut buffers = Buffers::new(alloc);
+    let text = source.whole_text(alloc)?;
+    match edit_each(&mut buffers, text, edits.as_slice(), rules) {
+        Ok(new) => Ok(new),
+        Err(failed) => Err(failed_edit(alloc, source, edits, failed, rules.reprints)?),
     }
-    Ok(text)
 }
 
-/// Returns the text of the document after the task. Without the value that it deletes, that may be the same.
-fn edited_by(
+/// Returns the error of the edit that failed, with what is at fault in the text before it.
+fn failed_edit(
+    alloc: Global,
+    source: &Document<'_>,
+    edits: Vec<Edit<'_>>,
+    failed: FailedEdit,
+    reformats: bool,
+) -> Result<ProgramError, ProgramError> {
+    let FailedEdit {
+        index,
+        before,
+        error,
+    } = failed;
+    let before = Document::of(alloc, source.name, source.format(), before.into_bytes())?;
+    let mut edits = edits;
+    if index >= edits.len() {
+        return Ok(ProgramError::Memory);
+    }
+    let edit = edits.swap_remove(index);
+    match error {
+        StepError::Comment(error) => Ok(ProgramError::of_comment(
+            alloc,
+            before.name,
+            before.text(alloc)?,
+            error.offset,
+        )),
+        StepError::Expands(error) => Ok(expansion_error(alloc, &before, &edit, error)),
+        StepError::Edit(TaskError::NotInPlace) => not_made(alloc, &before, edit, reformats),
+        StepError::Edit(error) => Ok(fault_of(alloc, &before, edit, error)),
+        StepError::Loses(loss) => Ok(LossError::of(loss).error(alloc, before.name)),
+    }
+}
+
+/// Returns the error of the edit that is possible, but not in place in the document: with the comment that it would
+/// lose, if it has comments.
+fn not_made(
     alloc: Global,
     before: &Document<'_>,
-    task: &Task<'_>,
-    rules: EditRules,
-) -> Result<String, ProgramError> {
-    match tried(alloc, before, task, rules.style.for_edit())? {
-        Ok(new) => Ok(new),
-        Err(TaskError::NotThere) if rules.skips_missing => before.whole_text(alloc),
-        Err(error) => Err(task_error(alloc, before.name, before.as_bytes(), task, error)),
+    edit: Edit<'_>,
+    reformats: bool,
+) -> Result<ProgramError, ProgramError> {
+    match before.both_texts() {
+        Some(texts) => edit_loses(alloc, before.name, texts, &edit, reformats),
+        None => Ok(fault_of(alloc, before, edit, TaskError::NotInPlace)),
     }
+}
+
+/// Returns the error of the edit, with what is at fault in the document.
+fn fault_of(
+    alloc: Global,
+    before: &Document<'_>,
+    edit: Edit<'_>,
+    error: TaskError,
+) -> ProgramError {
+    let task = Task::Edit(edit);
+    task_error(alloc, before.name, before.as_bytes(), &task, error)
 }
 
 /// Fails if each line is a document, for which there is one edit.

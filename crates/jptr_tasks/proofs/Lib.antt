@@ -10,3 +10,7 @@ mod OneErrorLemmas
 mod LongPatchLemmas
 mod DocumentLemmas
 mod ReprintLemmas
+mod TransferLemmas
+mod ExpandingLemmas
+mod SeveralLemmas
+mod OperationLemmas

@@ -2,6 +2,9 @@
 pub mod Failures
 pub mod Layouts
 pub mod Nodes
+pub mod Expanding
+pub mod Transfers
+pub mod Several
 pub mod Reprinting
 pub mod Results
 pub mod Differences

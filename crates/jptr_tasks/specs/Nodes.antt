@@ -1,5 +1,5 @@
 -- The value that tokens identify in the text of a document: its type, its length, its keys, and what it equals.
-use Rattle.std.specs.Prelude.{◌≡◌, ◌⊎◌, ℕ, List, [], ◌∷◌, ◌++◌, map, Bool, IsTrue, ◌↔◌, ◌-◌, Option, Some, None, MatchOption, Vec, String, string_bytes, ⊤}
+use Rattle.std.specs.Prelude.{◌≡◌, ℕ, List, [], ◌∷◌, map, Bool, IsTrue, ◌↔◌, ◌-◌, Option, Some, None, MatchOption, Vec, String, string_bytes, ⊤}
 use Rattle.std.specs.declared.alloc.Global.{Global}
 use Rattle.json.specs.Json.{read_key}
 use Rattle.json.specs.Lex as lex
@@ -17,7 +17,6 @@ use Rattle.jptr_tasks.specs.declared.task_error.TaskError.{TaskError}
 use Rattle.jptr_tasks.specs.declared.task_error.TaskError.TheVariants.{NotJson, Resolve, NotLocated, Memory}
 use Rattle.jsonptr_value.specs.NodeTypes.{type_of, length_of}
 use Rattle.jsonptr_value.specs.declared.types.NodeType.{NodeType}
-use Rattle.jsonptr_value.specs.declared.types.NodeType.TheVariants as variant
 
 -- `HasType text ts t`: the value that the tokens `ts` identify in the document of `text` has the type `t`
 abbrev pub HasType : Text → List Text → NodeType → Type 0
@@ -67,24 +66,3 @@ FailsToFind text ts e = ⊥
 abbrev pub FailsToListKeys : Text → List Text → TaskError → Type 0
 FailsToListKeys text ts NotLocated = (d : Data) × FindsInText text ts d
 FailsToListKeys text ts e = FailsToFind text ts e
-
--- `scalar_type t`: the type `t`, if it is that of a scalar
-abbrev pub scalar_type : NodeType → Option NodeType
-scalar_type variant.Null = Some variant.Null
-scalar_type variant.Boolean = Some variant.Boolean
-scalar_type variant.Number = Some variant.Number
-scalar_type variant.String = Some variant.String
-scalar_type variant.Array = None
-scalar_type variant.Object = None
-
--- `HasAbove text ts found`: `ts` are no tokens, or all but the last of them identify a value in the document of `text`. If this
--- is a scalar, `found` is its type
-abbrev pub HasAbove : Text → List Text → Option NodeType → Type 0
-HasAbove text ts found =
-    ((ts ≡ []) × (found ≡ None))
-    ⊎ ((front : List Text) × (last : Text) × (t : NodeType)
-    × (ts ≡ front ++ last ∷ []) × HasType text front t × (found ≡ scalar_type t))
-
--- `FailsAbove text ts e`: `e` is why all but the last of the tokens `ts` identify no value, unless an allocation failed
-abbrev pub FailsAbove : Text → List Text → TaskError → Type 0
-FailsAbove text ts e = (front : List Text) × (last : Text) × (ts ≡ front ++ last ∷ []) × FailsToFind text front e

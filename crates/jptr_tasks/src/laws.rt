@@ -1,6 +1,7 @@
 //! Laws of what the commands print. Each law is the contract of a function that does nothing.
 //!
 //! - [`one_error`]: a task has at most one error on a text.
+//! - [`expansion`]: what an assignment creates, and [`transfer`]: what a copy and a removal make.
 ghost use Rattle.std.specs.Prelude.{◌≡◌, ◌≢◌, ◌⊎◌, ◌↔◌, Bool, true, false, ℕ, List, [], ◌∷◌, ◌++◌, length, Some, string_bytes};
 ghost use Rattle.std.specs.Str.{IsUtf8};
 ghost use Rattle.std.specs.declared.alloc.AllocError.{AllocError};
@@ -38,7 +39,9 @@ ghost use Rattle.jptr_tasks.specs.declared.task.Task.TheVariants as task;
 ghost use Rattle.jsonptr_text_edit.specs.declared.edit.Edit.TheVariants.{Patch};
 ghost use Rattle.jptr_tasks.specs.declared.layout.Layout.TheVariants.{Kept, Raw};
 
+pub mod expansion;
 pub mod one_error;
+pub mod transfer;
 
 use jsonptr_patch::laws::comparison::test_comparison_law;
 use jsonptr_patch::laws::patch::comparing_patch_law;

@@ -9,6 +9,9 @@
 //! - [`document`]: a task on one document, from a reader to a writer.
 //! - [`line`]: a task on one line, and [`lines`]: on each line of an input.
 //! - [`node`]: the type, the length and the keys of a value, and whether it equals another one.
+//! - [`expansion`]: whether an assignment creates containers.
+//! - [`several`]: several edits, one after another.
+//! - [`operation`]: a move and a copy as patches, and the error of one operation.
 //! - [`paths`]: a document as lines of pointers and values, and a document from such lines.
 //! - [`patch`]: the operations of a patch document, and [`long_patch`]: applying one of many operations.
 //! - [`reprint`]: an edit, in place or in a document that is printed anew, if no digit is lost.
@@ -23,6 +26,7 @@ pub mod difference;
 pub mod document;
 mod edit;
 pub mod exit_status;
+pub mod expansion;
 pub mod inverse;
 pub mod laws;
 pub mod layout;
@@ -30,10 +34,12 @@ pub mod line;
 pub mod lines;
 pub mod long_patch;
 pub mod node;
+pub mod operation;
 pub mod patch;
 pub mod paths;
 pub mod replacement;
 pub mod reprint;
 pub mod result;
+pub mod several;
 pub mod task;
 pub mod task_error;

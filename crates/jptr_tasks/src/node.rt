@@ -4,7 +4,7 @@ ghost use Rattle.std.specs.Prelude.{◌≡◌, map, length, MatchOption, IfOk, I
 ghost use Rattle.serde_json.specs.View.{view};
 ghost use Rattle.jsonptr.specs.Pointer.{tokens};
 ghost use Rattle.jsonptr_text_resolve.specs.InText.{FindsInText};
-ghost use Rattle.jptr_tasks.specs.Nodes.{HasType, ValueHasLength, HasKeysAt, ListsKeys, IsNoObject, Tests, FailsToFind, FailsToListKeys, scalar_type, HasAbove, FailsAbove};
+ghost use Rattle.jptr_tasks.specs.Nodes.{HasType, ValueHasLength, HasKeysAt, ListsKeys, IsNoObject, Tests, FailsToFind, FailsToListKeys};
 ghost use Rattle.jptr_tasks.specs.PrivateNodes.{ListsRest};
 
 use crate::task_error::TaskError;
@@ -131,49 +131,6 @@ pub fn equals_in_text(
 {
     let found = found_value(alloc, text, pointer)?;
     Ok(is_equal(&found, value, Comparison::Numeric))
-}
-
-/// Returns the type of the scalar that an assignment at the pointer would replace by a container. Returns
-/// `None` if it would replace none, and create no container on the way: the pointer is the root, or its
-/// parent resolves to an array or an object in the text of the document.
-///
-/// # Errors
-///
-/// Those of [`type_in_text`], for the parent of the pointer. With [`TaskError::Resolve`] containers would
-/// be created.
-///
-/// # Examples
-///
-/// ```rust
-/// let text = r#"{"a": "x"}"#;
-/// assert_eq!(rt; scalar_above(alloc, text, Pointer::parse("/b")?)?, None);
-/// assert_eq!(rt; scalar_above(alloc, text, Pointer::parse("/a/b")?)?, Some(NodeType::String));
-/// let missing = scalar_above(alloc, text, Pointer::parse("/b/c")?);
-/// assert!(rt; matches!(missing, Err(TaskError::Resolve(_))));
-/// ```
-pub fn scalar_above(
-    alloc: Global,
-    text: &str,
-    pointer: Pointer<'_>,
-) -> Result<Option<NodeType>, TaskError>
-    ensures found { IfOk result (HasAbove text.now (tokens pointer.entry)) }
-    ensures refused { IfErr result (FailsAbove text.now (tokens pointer.entry)) }
-{
-    let Some(above) = pointer.parent() else {
-        return Ok(None);
-    };
-    let found = type_in_text(alloc, text, above)?;
-    Ok(scalar_type(found))
-}
-
-/// Returns the type again if it is that of a scalar.
-fn scalar_type(found: NodeType) -> Option<NodeType>
-    ensures { result ≡ scalar_type found }
-{
-    match found {
-        NodeType::Array | NodeType::Object => None,
-        scalar => Some(scalar),
-    }
 }
 
 /// Returns the value that the pointer resolves to in the text of a document.
