@@ -5,7 +5,8 @@ use Rattle.jsonptr_text_edit.specs.Errors.{IsEditError}
 use Rattle.jsonptr_text_edit.specs.declared.edit.Edit.{Edit}
 use Rattle.jsonptr_text_edit.specs.declared.edit.Edit.TheVariants.{Assign, Delete, Rename, Patch}
 use Rattle.jsonptr_text_edit.specs.declared.edit_error.EditError.TheVariants as error
-use Rattle.jptr_tasks.specs.Several.{MakesEach, MakesEdit, StopsEach, IsFailedEdit, MakesText, MakesWithComments, ChangesText, SkipsEdit, IsAllowed, IsPassedOver, IsPassedOverIn, IsBareText, IsBareError, IsCommentedStepError, IsStepError, IsTextError, IsOutOfMemory, FindsNothing}
+use Rattle.jptr_tasks.specs.PrivateSeveral.{IsPassedOverIn, IsOutOfMemory}
+use Rattle.jptr_tasks.specs.Several.{MakesEach, MakesEdit, StopsEach, IsFailedEdit, MakesText, MakesWithComments, ChangesText, SkipsEdit, IsAllowed, IsPassedOver, IsBareText, IsBareError, IsCommentedStepError, IsStepError, IsTextError, FindsNothing}
 use Rattle.jptr_tasks.specs.declared.several.FailedEdit.{FailedEdit}
 use Rattle.jptr_tasks.specs.declared.several.StepError.{StepError}
 use Rattle.jptr_tasks.specs.declared.several.StepError.TheVariants as step

@@ -29,14 +29,6 @@ abbrev pub HasParent : Text → List Text → Type 0
 HasParent text ts =
     (ts ≡ []) ⊎ ((front : List Text) × (t : NodeType) × IsParent front ts × HasType text front t × IsContainerType t)
 
--- `IsParentError text front e`: `e` is why the tokens `front` identify no value in the document of `text`, unless an allocation
--- failed
-abbrev pub IsParentError : Text → List Text → ExpansionError → Type 0
-IsParentError text front NotJson = read text ≡ None
-IsParentError text front (NoParent f) = RefusesInText text front f
-IsParentError text front (Scalar t) = ⊥
-IsParentError text front (Memory f) = ⊤
-
 -- `IsExpansionError text ts e`: `e` is why an assignment at `ts` would create a container in the document of `text`, or replace a
 -- scalar by one, unless an allocation failed. All but the last of the tokens identify a scalar, or nothing
 abbrev pub IsExpansionError : Text → List Text → ExpansionError → Type 0

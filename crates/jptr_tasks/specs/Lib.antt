@@ -19,6 +19,9 @@ pub mod Cutting
 pub mod Replacement
 pub mod PrivateReplacement
 pub mod PrivateNodes
+pub mod PrivateExpanding
+pub mod PrivateTransfers
+pub mod PrivateSeveral
 pub mod PrivateResults
 pub mod PrivateLineResults
 pub mod PrivateRuns

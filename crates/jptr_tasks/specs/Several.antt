@@ -91,10 +91,6 @@ ChangesText rules text edit new =
 abbrev pub SkipsEdit : EditRules → Text → Edit → Type 0
 SkipsEdit rules text edit = (bare : Text) × IsBareText rules text bare × IsPassedOver rules bare edit
 
--- `IsPassedOverIn rules text edit`: the same for the text with comments `text`
-abbrev pub IsPassedOverIn : EditRules → Text → Edit → Type 0
-IsPassedOverIn rules text edit = (bare : Text) × IsWithoutComments text bare × IsPassedOver rules bare edit
-
 -- `MakesEdit rules text edit new`: the edit makes `new` of `text`, or it is passed over, and `new` is `text`
 abbrev pub MakesEdit : EditRules → Text → Edit → Text → Type 0
 MakesEdit rules text edit new = ChangesText rules text edit new ⊎ (SkipsEdit rules text edit × (new ≡ text))
@@ -114,15 +110,6 @@ ExpandsBy old (Patch patch) e = ⊥
 -- `IsFault old edit e`: `e` is the error of the edit, which is not possible
 abbrev pub IsFault : Text → Edit → TaskError → Type 0
 IsFault old edit e = (f : EditError) × (e ≡ of_edit_error f) × IsEditError old edit f
-
--- `IsMadeError rules old edit e`: `e` is why the edit is not made: it is not possible, or a number would lose digits in a document that
--- is printed anew
-abbrev pub IsMadeError : EditRules → Text → Edit → StepError → Type 0
-IsMadeError rules old edit (step.Comment e) = ⊥
-IsMadeError rules old edit (step.Expands e) = ⊥
-IsMadeError rules old edit (step.Edit e) = IsFault old edit e
-IsMadeError rules old edit (step.Loses loss) =
-    ChecksDigits rules × ((new : Text) × EditsText old edit new) × LosesDigits old edit loss
 
 -- `IsTextError rules old edit e`: `e` is why the edit makes no text: it is not possible, or not in place while the document may not be
 -- printed anew, or a number would lose digits, or an allocation failed
@@ -191,13 +178,3 @@ pub record StopsEach (rules : EditRules) (old : Text) (edits : List Edit) (f : F
 abbrev pub of_exact_error : ExactError → StepError
 of_exact_error (exact.Edit e) = step.Edit (of_edit_error e)
 of_exact_error (exact.Loses loss) = step.Loses loss
-
--- `IsOutOfMemory e`: `e` says that an allocation failed
-abbrev pub IsOutOfMemory : StepError → Type 0
-IsOutOfMemory (step.Edit (Memory e)) = ⊤
-IsOutOfMemory e = ⊥
-
--- `IsEditFault old edit e`: `e` is the error of the edit alone
-abbrev pub IsEditFault : Text → Edit → StepError → Type 0
-IsEditFault old edit (step.Edit e) = IsFault old edit e
-IsEditFault old edit e = ⊥

@@ -25,10 +25,6 @@ IsMoveError fs ps (Memory e) = ⊤
 abbrev pub AreSiblings : List Text → List Text → List Text → Text → Type 0
 AreSiblings fs ps front y = ((x : Text) × (fs ≡ front ++ x ∷ [])) × (ps ≡ front ++ y ∷ [])
 
--- `HasNoSibling fs ps`: the tokens `fs` and `ps` have no parent, or not the same one
-abbrev pub HasNoSibling : List Text → List Text → Type 0
-HasNoSibling fs ps = (front : List Text) (y : Text) → AreSiblings fs ps front y → ⊥
-
 -- `IsFound text ts`: the tokens `ts` identify a value in the document of `text`
 abbrev pub IsFound : Text → List Text → Type 0
 IsFound text ts = (v : Data) × FindsInText text ts v

@@ -1,8 +1,9 @@
 //! Whether an assignment creates containers.
 ghost use Rattle.std.specs.Prelude.{◌≡◌, OnOk, IfOk, IfErr};
 ghost use Rattle.jsonptr.specs.Pointer.{tokens};
-ghost use Rattle.jptr_tasks.specs.Expanding.{HasParent, IsExpansionError, IsParentError, of_parent_error};
+ghost use Rattle.jptr_tasks.specs.Expanding.{HasParent, IsExpansionError, of_parent_error};
 ghost use Rattle.jptr_tasks.specs.Nodes.{HasType};
+ghost use Rattle.jptr_tasks.specs.PrivateExpanding.{IsParentError};
 
 use jsonptr::{Pointer, resolve};
 use jsonptr_text_resolve::{InTextError, resolve_in_text};

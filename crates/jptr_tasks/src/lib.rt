@@ -9,17 +9,17 @@
 //! - [`document`]: a task on one document, from a reader to a writer.
 //! - [`line`]: a task on one line, and [`lines`]: on each line of an input.
 //! - [`node`]: the type, the length and the keys of a value, and whether it equals another one.
-//! - [`expansion`]: whether an assignment creates containers.
-//! - [`several`]: several edits, one after another.
-//! - [`operation`]: a move and a copy as patches, and the error of one operation.
 //! - [`paths`]: a document as lines of pointers and values, and a document from such lines.
 //! - [`patch`]: the operations of a patch document, and [`long_patch`]: applying one of many operations.
+//! - [`operation`]: a move and a copy as patches, and the error of one operation.
+//! - [`expansion`]: whether an assignment creates containers.
+//! - [`several`]: several edits, one after another.
 //! - [`reprint`]: an edit, in place or in a document that is printed anew, if no digit is lost.
 //! - [`replacement`]: replacing the text of a file, whatever moment the system stops at.
 //! - [`task_error`]: the errors, and the exit status of each.
 //! - [`exit_status`]: what each exit status means.
-//! - [`laws`]: lines, differences and inverses as texts, inputs that are cut, and that each input has one
-//!   error.
+//! - [`laws`]: lines, differences and inverses as texts, inputs that are cut, that each input has one
+//!   error, what an assignment creates, and what a copy and a removal make.
 #![tactic(auto)]
 
 pub mod difference;

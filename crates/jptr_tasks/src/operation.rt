@@ -6,7 +6,8 @@ ghost use Rattle.jsonptr_patch.specs.Operating.{IsProperPrefix};
 ghost use Rattle.jsonptr_patch.specs.declared.operation.Operation.TheVariants.{Move, Copy, Remove};
 ghost use Rattle.jsonptr_text_resolve.specs.InText.{FindsInText};
 ghost use Rattle.jsonptr_text_value.specs.Operations.{operations_in};
-ghost use Rattle.jptr_tasks.specs.Transfers.{IsMoveError, MovesOnlyChild, AreSiblings, HasNoSibling, IsFound, HoldsOne, IsOwnError, tokens_at_fault};
+ghost use Rattle.jptr_tasks.specs.PrivateTransfers.{HasNoSibling};
+ghost use Rattle.jptr_tasks.specs.Transfers.{IsMoveError, MovesOnlyChild, AreSiblings, IsFound, HoldsOne, IsOwnError, tokens_at_fault};
 ghost use Rattle.jptr_tasks.specs.declared.operation.MoveError.TheVariants as moves;
 
 use crate::task_error::TaskError;

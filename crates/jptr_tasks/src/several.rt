@@ -6,7 +6,8 @@ ghost use Rattle.jsonptr_text_edit.specs.Edited.{text_of, is_in_place, IfInPlace
 ghost use Rattle.jsonptr_text_edit.specs.Edits.{EditsText, EditBytes};
 ghost use Rattle.jsonptr_text_step.specs.OneLine.{StaysOneLine};
 ghost use Rattle.jptr_tasks.specs.Reprinting.{KeepsGivenDigits};
-ghost use Rattle.jptr_tasks.specs.Several.{MakesEach, MakesEdit, StopsEach, IsFailedEdit, SkipsEdit, ChangesText, MakesText, MakesWithComments, IsPassedOver, IsPassedOverIn, IsStepError, IsBareError, IsCommentedStepError, IsTextError, IsMadeError, IsEditFault, IsOutOfMemory, IsAllowed, ExpandsBy, ChecksDigits, of_exact_error};
+ghost use Rattle.jptr_tasks.specs.PrivateSeveral.{IsPassedOverIn, IsMadeError, IsEditFault, IsOutOfMemory};
+ghost use Rattle.jptr_tasks.specs.Several.{MakesEach, MakesEdit, StopsEach, IsFailedEdit, SkipsEdit, ChangesText, MakesText, MakesWithComments, IsPassedOver, IsStepError, IsBareError, IsCommentedStepError, IsTextError, IsAllowed, ExpandsBy, ChecksDigits, of_exact_error};
 ghost use Rattle.jptr_tasks.specs.declared.several.StepError.TheVariants as step;
 
 use crate::expansion::{ExpansionError, check_expansion};
