@@ -85,6 +85,11 @@ OTHERS = {
         ("jptr_tasks/src/document.rt", ["run_document"]),
         ("jptr_tasks/src/lines.rt", ["run_lines"]),
     ],
+    "several edits, moves and copies": [
+        ("jptr_tasks/src/several.rt", ["edit_each"]),
+        ("jptr_tasks/src/operation.rt", ["move_patch", "copy_and_remove_patch", "moves_only_child"]),
+        ("jptr_tasks/src/expansion.rt", ["check_expansion"]),
+    ],
     "a file that is replaced": [("jptr_tasks/src/replacement.rt", ["replace"])],
     "calls for C": [
         ("jsonptr_c_calls/src/pointers.rt", ["count", "token", "escape", "push", "pop"]),
