@@ -49,7 +49,7 @@ impl From<AllocError> for MoveError {
 ///
 /// ```rust
 /// let patch = move_patch(alloc, Pointer::parse("/a")?, Pointer::parse("/b")?).ok().ok_or("a patch")?;
-/// let text = r#"[{"op":"move","from":"/a","path":"/b"}]"#;
+/// let text = r#"[{"from":"/a","op":"move","path":"/b"}]"#;
 /// assert_eq!(rt; patch.document.to_string(alloc)?.as_str(), text);
 /// let below = move_patch(alloc, Pointer::parse("/a")?, Pointer::parse("/a/b")?);
 /// assert!(rt; matches!(below, Err(MoveError::IntoSelf)));
@@ -94,7 +94,7 @@ fn patch_of_move(
 ///
 /// ```rust
 /// let patch = copy_patch(alloc, Pointer::parse("/a")?, Pointer::parse("/a/b")?)?;
-/// let text = r#"[{"op":"copy","from":"/a","path":"/a/b"}]"#;
+/// let text = r#"[{"from":"/a","op":"copy","path":"/a/b"}]"#;
 /// assert_eq!(rt; patch.document.to_string(alloc)?.as_str(), text);
 /// ```
 pub fn copy_patch(
@@ -124,7 +124,7 @@ pub fn copy_patch(
 ///
 /// ```rust
 /// let patch = copy_and_remove_patch(alloc, Pointer::parse("/0")?, Pointer::parse("/-")?)?;
-/// let text = r#"[{"op":"copy","from":"/0","path":"/-"},{"op":"remove","path":"/0"}]"#;
+/// let text = r#"[{"from":"/0","op":"copy","path":"/-"},{"op":"remove","path":"/0"}]"#;
 /// assert_eq!(rt; patch.document.to_string(alloc)?.as_str(), text);
 /// ```
 pub fn copy_and_remove_patch(
