@@ -21,7 +21,7 @@ sys.path.insert(0, os.path.dirname(HERE))
 import repository  # noqa: E402
 
 NAME = "jsonptr_timed"
-USES = ["jsonptr_patch_diff", "jsonptr_patch_document", "jsonptr_patch", "jsonptr_value", "jsonptr", "serde_json", "toml"]
+USES = ["jsonptr_merge", "jsonptr_patch_diff", "jsonptr_patch_document", "jsonptr_patch", "jsonptr_value", "jsonptr", "serde_json", "toml"]
 BUILT = f"{HERE}/out/{NAME}"
 
 

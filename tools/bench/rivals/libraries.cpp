@@ -4,8 +4,8 @@
  *     libraries rapidjson cases - ROUNDS < CASES
  *     libraries dom kernel - 0
  *
- * A job is `read`, `find POINTER`, `change POINTER VALUE`, `patch PATCH_FILE` or `lines POINTER`. simdjson keeps its parser, and so the
- * parser's memory, from round to round, as its page of usage recommends. */
+ * A job is `read`, `find POINTER`, `change POINTER VALUE`, `patch PATCH_FILE`, `merge PATCH_FILE` or `lines POINTER`. simdjson keeps its
+ * parser, and so the parser's memory, from round to round, as its page of usage recommends. */
 #include "timing.hpp"
 
 #define RAPIDJSON_HAS_STDSTRING 1
@@ -86,6 +86,11 @@ static Job of_nlohmann(const std::string &job, const std::string &text, char **w
     if (job == "patch") return [&text, patch = read_file(words[0])] {
         json document = json::parse(text);
         document.patch_inplace(json::parse(patch));
+        return document.dump();
+    };
+    if (job == "merge") return [&text, patch = read_file(words[0])] {
+        json document = json::parse(text);
+        document.merge_patch(json::parse(patch));
         return document.dump();
     };
     fail("nlohmann: no such job");

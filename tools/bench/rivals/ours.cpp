@@ -1,6 +1,7 @@
-/* The library for C, for rivals.py. A job is `read`, `find POINTER` or `patch PATCH_FILE`.
+/* The library for C, for rivals.py. A job is `read`, `find POINTER`, `change POINTER VALUE` or `patch PATCH_FILE`.
  *
- *     ours jsonptr JOB FILE ROUNDS WORD..       a job in a text
+ *     ours jsonptr JOB FILE ROUNDS WORD..       a job, by a document
+ *     ours in_text JOB FILE ROUNDS WORD..       the same in the text, which keeps its layout
  *     ours jsonptr cases - ROUNDS < CASES       the calls in a document; without rounds their results */
 #include "jsonptr.h"
 #include "timing.hpp"
@@ -36,6 +37,39 @@ static std::string patch(const std::string &text, const std::string &patch) {
     std::string out = printed(document, text.size() + patch.size());
     jsonptr_document_free(&document);
     return out;
+}
+
+static std::string change_document(const std::string &text, const std::string &pointer, const std::string &value) {
+    jsonptr_document document = read(text);
+    if (jsonptr_document_assign(&document, pointer.data(), pointer.size(), value.data(), value.size(), nullptr)) fail("jsonptr: change");
+    std::string out = printed(document, text.size() + value.size());
+    jsonptr_document_free(&document);
+    return out;
+}
+
+/* Edits a text in a handle, and returns the new one. `longer` has the most bytes by which it grows. */
+static std::string edited(const std::string &text, size_t longer, const std::function<jsonptr_status(jsonptr_text *)> &edit) {
+    jsonptr_text handle = JSONPTR_TEXT_INIT;
+    if (jsonptr_text_open(&handle, JSONPTR_FORMAT_JSON, text.data(), text.size(), nullptr)) fail("jsonptr: text");
+    if (edit(&handle)) fail("jsonptr: edit");
+    std::string out(text.size() + longer, '\0');
+    size_t length = 0;
+    if (jsonptr_text_copy(&handle, 0, SIZE_MAX, &out[0], out.size(), &length, nullptr)) fail("jsonptr: copy");
+    out.resize(length);
+    jsonptr_text_free(&handle);
+    return out;
+}
+
+static std::string change_in_text(const std::string &text, const std::string &pointer, const std::string &value) {
+    return edited(text, value.size(), [&](jsonptr_text *handle) {
+        return jsonptr_text_assign(handle, pointer.data(), pointer.size(), value.data(), value.size(), 0, nullptr, nullptr);
+    });
+}
+
+static std::string patch_in_text(const std::string &text, const std::string &patch) {
+    return edited(text, 2 * patch.size(), [&](jsonptr_text *handle) {
+        return jsonptr_text_patch(handle, patch.data(), patch.size(), 0, nullptr, nullptr);
+    });
 }
 
 static bool resolve(jsonptr_document &document, const Case &it) {
@@ -76,8 +110,9 @@ static void run_case(const Case &it, bool is_timed) {
 }
 
 int main(int argc, char **argv) {
-    if (argc < 5) fail("usage: ours jsonptr JOB FILE ROUNDS WORD..");
+    if (argc < 5) fail("usage: ours LIBRARY JOB FILE ROUNDS WORD..");
     std::string job = argv[2];
+    bool in_text = std::string(argv[1]) == "in_text";
     int rounds = atoi(argv[4]);
     if (job == "cases") {
         for (const Case &it : read_cases()) run_case(it, rounds != 0);
@@ -90,6 +125,7 @@ int main(int argc, char **argv) {
         return std::string("false");
     });
     if (job == "find") return run(rounds, [&] { return find(text, argv[5]); });
-    if (job == "patch") return run(rounds, [&, words = read_file(argv[5])] { return patch(text, words); });
+    if (job == "change") return run(rounds, [&] { return in_text ? change_in_text(text, argv[5], argv[6]) : change_document(text, argv[5], argv[6]); });
+    if (job == "patch") return run(rounds, [&, words = read_file(argv[5])] { return in_text ? patch_in_text(text, words) : patch(text, words); });
     fail("no such job");
 }

@@ -1,6 +1,6 @@
-// The package json-patch of evanphx, for rivals.py: patch evanphx patch FILE ROUNDS PATCH_FILE
+// The package json-patch of evanphx, for rivals.py: go_patch evanphx JOB FILE ROUNDS PATCH_FILE
 //
-// With no rounds it applies the patch once, and writes the document. Else it writes the mean nanoseconds of all rounds, so
+// A job is `patch`, or `merge` for a merge patch. With no rounds it is done once, and writes the document. Else it writes the mean nanoseconds of all rounds, so
 // that the time of collecting garbage counts, as that of freeing memory does in other languages.
 package main
 
@@ -32,6 +32,22 @@ func check(err error) {
 	}
 }
 
+// patched applies a patch (RFC 6902).
+func patched(text, words []byte) []byte {
+	patch, err := jsonpatch.DecodePatch(words)
+	check(err)
+	result, err := patch.Apply(text)
+	check(err)
+	return result
+}
+
+// merged applies a merge patch (RFC 7396).
+func merged(text, words []byte) []byte {
+	result, err := jsonpatch.MergePatch(text, words)
+	check(err)
+	return result
+}
+
 func main() {
 	text, err := os.ReadFile(os.Args[3])
 	check(err)
@@ -39,20 +55,17 @@ func main() {
 	check(err)
 	rounds, err := strconv.Atoi(os.Args[4])
 	check(err)
-	job := func() []byte {
-		patch, err := jsonpatch.DecodePatch(words)
-		check(err)
-		result, err := patch.Apply(text)
-		check(err)
-		return result
+	job := patched
+	if os.Args[2] == "merge" {
+		job = merged
 	}
 	if rounds == 0 {
-		os.Stdout.Write(job())
+		os.Stdout.Write(job(text, words))
 		return
 	}
 	start := now()
 	for round := 0; round < rounds; round++ {
-		job()
+		job(text, words)
 	}
 	fmt.Println((now() - start) / int64(rounds))
 }
