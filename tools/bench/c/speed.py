@@ -56,7 +56,7 @@ def time_c(built, text, rounds):
     for name, row in times.items():
         cells = [shown(row["jsonptr"])]
         for other in ("json-c", "cJSON"):
-            cells += [shown(row[other]), f"{row['jsonptr'] / row[other]:.2f}"]
+            cells += [shown(row[other]), f"{row['jsonptr'] / row[other]:.2f}"] if other in row else ["", ""]
         print(f"| {name} | " + " | ".join(cells) + " |")
 
 

@@ -4,8 +4,9 @@
  *
  * FILE has a JSON document. Each line of the output is a case, the library, and the least time of all rounds in
  * nanoseconds. The libraries take turns in each round. With CASE and LIBRARY only that one is run, so that valgrind can
- * count it. Debian's cJSON comes without pointers and patches, so `walk` does what a program with cJSON writes. json-c
- * 0.16 has no patches: the same changes are made by its pointers. */
+ * count it. Debian's cJSON comes without pointers and patches, so `walk` does what a program with cJSON writes. Its arrays
+ * are lists: it has no case that finds a late element of one in a document that is there. json-c 0.16 has no patches: the
+ * same changes are made by its pointers. */
 #include "jsonptr.h"
 
 #include <cjson/cJSON.h>
@@ -89,13 +90,6 @@ static void json_c_print(void) {
     sink += strlen(json_object_to_json_string_ext(found, JSON_C_TO_STRING_PLAIN));
 }
 
-static void c_json_print(void) {
-    cJSON *found = walk(c_json, pointer);
-    char out[256];
-    if (found == NULL || !cJSON_PrintPreallocated(found, out, sizeof out, 0)) fail("cJSON: print");
-    sink += strlen(out);
-}
-
 /* ---- Reading and resolving ---- */
 
 static void ours_read(void) {
@@ -166,23 +160,10 @@ static void json_c_patch(int count) {
     }
 }
 
-static void c_json_patch(int count) {
-    for (int i = 0; i < count; i++) {
-        char parent[64];
-        strcpy(parent, paths[i]);
-        char *key = strrchr(parent, '/');
-        *key = '\0';
-        cJSON *at = walk(c_json, parent);
-        if (!cJSON_ReplaceItemInObjectCaseSensitive(at, key + 1, cJSON_Parse(values[round_number % VALUES]))) fail("cJSON: patch");
-    }
-}
-
 static void ours_patch_1(void) { ours_patch(1); }
 static void json_c_patch_1(void) { json_c_patch(1); }
-static void c_json_patch_1(void) { c_json_patch(1); }
 static void ours_patch_10(void) { ours_patch(PATHS); }
 static void json_c_patch_10(void) { json_c_patch(PATHS); }
-static void c_json_patch_10(void) { c_json_patch(PATHS); }
 
 static const struct {
     const char *name, *pointer, *library;
@@ -191,13 +172,11 @@ static const struct {
 } cases[] = {
     { "find a member", "/size/a~1b", "jsonptr", ours_node, 2000 },
     { "find a member", "/size/a~1b", "json-c", json_c_node, 2000 },
-    { "find a member", "/size/a~1b", "cJSON", c_json_node, 20 },
+    { "find a member", "/size/a~1b", "cJSON", c_json_node, 2000 },
     { "find in the last record", "/items/9999/deep/y/2", "jsonptr", ours_node, 2000 },
     { "find in the last record", "/items/9999/deep/y/2", "json-c", json_c_node, 2000 },
-    { "find in the last record", "/items/9999/deep/y/2", "cJSON", c_json_node, 20 },
     { "find and print", "/items/9999/deep/y/2", "jsonptr", ours_print, 2000 },
     { "find and print", "/items/9999/deep/y/2", "json-c", json_c_print, 2000 },
-    { "find and print", "/items/9999/deep/y/2", "cJSON", c_json_print, 20 },
     { "read, find and print", "/items/9999/deep/y/2", "jsonptr", ours_read, 1 },
     { "read, find and print", "/items/9999/deep/y/2", "json-c", json_c_read, 1 },
     { "read, find and print", "/items/9999/deep/y/2", "cJSON", c_json_read, 1 },
@@ -206,10 +185,8 @@ static const struct {
     { "find in the text and print", "/items/9999/deep/y/2", "cJSON", c_json_read, 1 },
     { "a patch of 1 operation", "", "jsonptr", ours_patch_1, 200 },
     { "a patch of 1 operation", "", "json-c", json_c_patch_1, 200 },
-    { "a patch of 1 operation", "", "cJSON", c_json_patch_1, 20 },
     { "a patch of 10 operations", "", "jsonptr", ours_patch_10, 50 },
     { "a patch of 10 operations", "", "json-c", json_c_patch_10, 50 },
-    { "a patch of 10 operations", "", "cJSON", c_json_patch_10, 10 },
 };
 
 #define CASES (sizeof cases / sizeof *cases)
