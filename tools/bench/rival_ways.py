@@ -102,60 +102,89 @@ def compile_ours(words, work):
 
 
 class Ways:
-    """The ways to do the jobs, by their short names. Those that are not installed are not there."""
+    """The ways to do the jobs, by their short names. What a way needs is compiled when a job first asks for it."""
 
     def __init__(self, words, work):
-        self.found = {}
-        self.add_ours(words, work)
-        self.add_cpp(words, work)
-        self.add_others(work)
-
-    def add(self, key, name, command):
-        self.found[key] = Way(name, command)
-
-    def add_ours(self, words, work):
-        """Adds the library for C, `jptr`, and the program that program.py builds."""
-        if program := compile_ours(words, work):
-            self.add("ours", "ours", [program, "jsonptr"])
-            self.add("ours_in_text", "ours, keeping the layout", [program, "in_text"])
-        jptr = words.jptr or f"{words.crates}/jptr/out/jptr"
-        if os.path.exists(jptr):
-            self.add("jptr", "`jptr`", [os.path.abspath(jptr)])
-        if os.path.exists(words.timed):
-            self.add("timed", "ours", [os.path.abspath(words.timed)])
-
-    def add_cpp(self, words, work):
-        """Adds the libraries in C and C++."""
-        if found := versions_of("libsimdjson-dev", "rapidjson-dev", "nlohmann-json3-dev"):
-            program = compile_cpp("libraries.cpp", ["-DRAPIDJSON_SSE42", "-lsimdjson"], work)
-            simdjson, rapidjson, nlohmann = found
-            kernel = first_line(program, "dom", "kernel", "-", "0")
-            narrow = ["/usr/bin/env", "SIMDJSON_FORCE_IMPLEMENTATION=westmere", program, "dom"]
-            self.add("dom", f"simdjson {simdjson} DOM ({kernel})", [program, "dom"])
-            self.add("dom_narrow", "simdjson DOM, vectors of 16 bytes as ours", narrow)
-            self.add("on_demand", "simdjson on demand (does not check what it skips)", [program, "on_demand"])
-            self.add("rapidjson", f"RapidJSON {rapidjson}", [program, "rapidjson"])
-            self.add("rapidjson_unchecked", "RapidJSON by default (checks no UTF-8, rounds floats)", [program, "rapidjson_unchecked"])
-            self.add("nlohmann", f"nlohmann {nlohmann}", [program, "nlohmann"])
-        if words.cjson:
-            self.add("cjson", f"cJSON {os.path.basename(os.path.abspath(words.cjson)).removeprefix('cjson-')}", [compile_cjson(words.cjson, work), "cjson"])
-
-    def add_others(self, work):
-        """Adds what is in Rust, Go and Python, and the programs."""
-        crates = versions_of("librust-serde-json-dev", "librust-toml-edit-dev")
-        if crates and shutil.which("cargo"):
-            program = compile_rust(work)
-            for name, version in zip(("serde_json", "toml_edit"), crates):
-                self.add(name, f"{name} {version}", [program, name])
-        version = version_of("golang-github-evanphx-json-patch-dev")
-        if version and shutil.which("go"):
-            self.add("evanphx", f"evanphx/json-patch {version}", [compile_go(work), "evanphx"])
-        if version := version_of("python3-jsonpatch"):
-            self.add("jsonpatch", f"Python's jsonpatch {version}", ["/usr/bin/python3", f"{SOURCES}/patch.py", "jsonpatch"])
-        for name in ("jq", "gojq"):
-            if version := version_of(name):
-                self.add(name, f"{name} {version}", [f"/usr/bin/{name}", "-c"])
+        self.words, self.work, self.found = words, work, {}
 
     def of(self, ours, *others):
-        """Returns ours, and those of the others that are there."""
-        return [self.found.get(ours, Way("ours", None)), *(self.found[it] for it in others if it in self.found)]
+        """Returns ours, and those of the others that are installed."""
+        return [self.way(ours) or Way("ours", None), *filter(None, map(self.way, others))]
+
+    def way(self, key):
+        """Returns a way, or `None` if it is not installed, or, of ours, not built."""
+        if key not in self.found:
+            for group, keys in GROUPS.items():
+                if key in keys:
+                    self.found |= dict.fromkeys(keys) | dict(group(self.words, self.work))
+        return self.found[key]
+
+
+def ours_in_c(words, work):
+    """Yields the library for C."""
+    if program := compile_ours(words, work):
+        yield "ours", Way("ours", [program, "jsonptr"])
+        yield "ours_in_text", Way("ours, keeping the layout", [program, "in_text"])
+
+
+def ours_built(words, _work):
+    """Yields `jptr`, and the program that program.py builds."""
+    jptr = words.jptr or f"{words.crates}/jptr/out/jptr"
+    if os.path.exists(jptr):
+        yield "jptr", Way("`jptr`", [os.path.abspath(jptr)])
+    if os.path.exists(words.timed):
+        yield "timed", Way("ours", [os.path.abspath(words.timed)])
+
+
+def in_cpp(_words, work):
+    """Yields the libraries in C++."""
+    if found := versions_of("libsimdjson-dev", "rapidjson-dev", "nlohmann-json3-dev"):
+        program = compile_cpp("libraries.cpp", ["-DRAPIDJSON_SSE42", "-lsimdjson"], work)
+        simdjson, rapidjson, nlohmann = found
+        kernel = first_line(program, "dom", "kernel", "-", "0")
+        narrow = ["/usr/bin/env", "SIMDJSON_FORCE_IMPLEMENTATION=westmere", program, "dom"]
+        yield "dom", Way(f"simdjson {simdjson} DOM ({kernel})", [program, "dom"])
+        yield "dom_narrow", Way("simdjson DOM, vectors of 16 bytes as ours", narrow)
+        yield "on_demand", Way("simdjson on demand (does not check what it skips)", [program, "on_demand"])
+        yield "rapidjson", Way(f"RapidJSON {rapidjson}", [program, "rapidjson"])
+        yield "rapidjson_unchecked", Way("RapidJSON by default (checks no UTF-8, rounds floats)", [program, "rapidjson_unchecked"])
+        yield "nlohmann", Way(f"nlohmann {nlohmann}", [program, "nlohmann"])
+
+
+def in_c(words, work):
+    """Yields cJSON."""
+    if words.cjson:
+        version = os.path.basename(os.path.abspath(words.cjson)).removeprefix("cjson-")
+        yield "cjson", Way(f"cJSON {version}", [compile_cjson(words.cjson, work), "cjson"])
+
+
+def in_rust(_words, work):
+    """Yields the crates of Rust."""
+    crates = versions_of("librust-serde-json-dev", "librust-toml-edit-dev")
+    if crates and shutil.which("cargo"):
+        program = compile_rust(work)
+        for name, version in zip(("serde_json", "toml_edit"), crates):
+            yield name, Way(f"{name} {version}", [program, name])
+
+
+def in_go(_words, work):
+    """Yields the package of Go."""
+    version = version_of("golang-github-evanphx-json-patch-dev")
+    if version and shutil.which("go"):
+        yield "evanphx", Way(f"evanphx/json-patch {version}", [compile_go(work), "evanphx"])
+
+
+def installed(_words, _work):
+    """Yields what is not compiled."""
+    if version := version_of("python3-jsonpatch"):
+        yield "jsonpatch", Way(f"Python's jsonpatch {version}", ["/usr/bin/python3", f"{SOURCES}/patch.py", "jsonpatch"])
+    for name in ("jq", "gojq"):
+        if version := version_of(name):
+            yield name, Way(f"{name} {version}", [f"/usr/bin/{name}", "-c"])
+
+
+GROUPS = {
+    ours_in_c: ["ours", "ours_in_text"], ours_built: ["jptr", "timed"],
+    in_cpp: ["dom", "dom_narrow", "on_demand", "rapidjson", "rapidjson_unchecked", "nlohmann"], in_c: ["cjson"],
+    in_rust: ["serde_json", "toml_edit"], in_go: ["evanphx"], installed: ["jsonpatch", "jq", "gojq"],
+}
