@@ -1,7 +1,8 @@
 // The package json-patch of evanphx, for rivals.py: go_patch evanphx JOB FILE ROUNDS PATCH_FILE
 //
 // A job is `patch`, or `merge` for a merge patch. With no rounds it is done once, and writes the document. Else it writes the mean nanoseconds of all rounds, so
-// that the time of collecting garbage counts, as that of freeing memory does in other languages.
+// that the time of collecting garbage counts, as that of freeing memory does in other languages. There is no round after a
+// second.
 package main
 
 import (
@@ -63,9 +64,11 @@ func main() {
 		os.Stdout.Write(job(text, words))
 		return
 	}
-	start := now()
-	for round := 0; round < rounds; round++ {
+	const second = 1_000_000_000
+	start, done := now(), 0
+	for done < rounds && (done == 0 || now()-start < second) {
 		job(text, words)
+		done++
 	}
-	fmt.Println((now() - start) / int64(rounds))
+	fmt.Println((now() - start) / int64(done))
 }

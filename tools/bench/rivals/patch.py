@@ -19,7 +19,8 @@ def main():
         sys.stdout.write(job(text, patch))
         return
     times = []
-    for _ in range(int(rounds)):
+    # No round begins after a second.
+    while len(times) < int(rounds) and sum(times) < 1_000_000_000:
         start = time.process_time_ns()
         job(text, patch)
         times.append(time.process_time_ns() - start)

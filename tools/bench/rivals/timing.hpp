@@ -38,7 +38,8 @@ static std::string read_file(const char *path) {
     return text;
 }
 
-/* With no rounds, does a job once, and writes its result. Else writes the least nanoseconds of all rounds. */
+/* With no rounds, does a job once, and writes its result. Else writes the least nanoseconds of all rounds. There is none
+ * after a second. */
 static int run(int rounds, const std::function<std::string()> &job) {
     if (rounds == 0) {
         std::string result = job();
@@ -48,8 +49,8 @@ static int run(int rounds, const std::function<std::string()> &job) {
     // Memory that is freed stays with the process, so that no library waits for the system by chance.
     mallopt(M_TRIM_THRESHOLD, 1 << 30);
     mallopt(M_MMAP_THRESHOLD, 1 << 25);
-    double least = 1e18;
-    for (int round = 0; round < rounds; round++) {
+    double least = 1e18, first = now();
+    for (int round = 0; round < rounds && (round == 0 || now() - first < 1e9); round++) {
         double start = now();
         std::string result = job();
         least = std::min(least, now() - start);
