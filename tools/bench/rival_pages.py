@@ -33,8 +33,20 @@ OURS = ["ours", "`jptr`", "ours, keeping the layout", "ours, from C"]
 # Above this ratio a rival is faster: the machine is shared, so less means nothing.
 FASTER = 1.05
 
+READING = "vectors of 64 bytes, and [what ours does more](#finding-and-reading)"
+POOL = "its memory is one pool, of which it frees nothing before the document"
+
 # Why a rival is faster: by the job and the start of its name.
-REASONS = {}
+REASONS = {
+    ("find", "simdjson 3"): READING,
+    ("find", "simdjson DOM"): "[what ours does more](#finding-and-reading)",
+    ("find", "simdjson on demand"): "it does not check what it skips",
+    ("find", "RapidJSON by default"): "it rounds floats less exactly, and checks no UTF-8",
+    ("merge", "nlohmann"): "[ours copies the document](#apply-a-patch)",
+    ("merge", "cJSON"): "[ours copies the document](#apply-a-patch), and sorts members, which cJSON appends to a list",
+    ("document", "the Rust crate"): "[the map and the vector of the kit](LIMITS.md#collections-that-move-one-value-at-a-time)",
+    ("document", "RapidJSON"): f"a pointer has its indices as numbers, from when it was parsed; {POOL}",
+}
 
 
 def rows_of(results, job):
