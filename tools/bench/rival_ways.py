@@ -71,7 +71,8 @@ def compile_cjson(cjson, work):
 
 def compile_rust(work):
     """Compiles the program in Rust over Debian's crates."""
-    shutil.copytree(f"{SOURCES}/rust", f"{work}/rust", dirs_exist_ok=True)
+    # Cargo looks at the times of files, which `copy` makes new.
+    shutil.copytree(f"{SOURCES}/rust", f"{work}/rust", dirs_exist_ok=True, copy_function=shutil.copy)
     debian = ['source.crates-io.replace-with="debian"', 'source.debian.directory="/usr/share/cargo/registry"']
     options = [word for it in debian for word in ("--config", it)]
     subprocess.run(["cargo", "build", "--quiet", "--offline", "--release", *options], cwd=f"{work}/rust", check=True)

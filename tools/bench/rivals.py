@@ -177,6 +177,7 @@ def find(all_ways, words):
     """Finds a value in a text, by libraries."""
     ways = all_ways.of("ours", "dom", "dom_narrow", "on_demand", "rapidjson", "rapidjson_unchecked", "serde_json", "nlohmann")
     table = Table("find", "Text", ways, words)
+    check_examples([way for way in ways if way.command], "find")
     for text, path in files(words):
         libraries(table, ways, f"{text.name}, {size_of(path)}", words, ("find", path, text.pointer))
     return table.results
@@ -273,12 +274,24 @@ def merge_ours(way, document, patch_text, case):
     return way.command and output_of(way.command, case.name).split(b"\t", 1)[1]
 
 
+def check_our_merges(way):
+    """Raises `Differs` if ours has another result than the RFC states."""
+    lines = "".join(f"{expected}\tmerged\t{text}\t{patch_text}\n" for text, patch_text, expected in EXAMPLES["merge"])
+    ran = subprocess.run(way.command, input=lines, stdout=subprocess.PIPE, encoding="utf-8", check=True)
+    for line in ran.stdout.splitlines():
+        expected, made = map(json.loads, line.split("\t", 1))
+        if not same(expected, made):
+            raise Differs(f"ours, merge: {line}")
+
+
 def merge(all_ways, words):
     """Applies a merge patch, by libraries: reads both texts, and prints the new document."""
     ways = all_ways.of("timed", "nlohmann", "cjson", "evanphx")
     ours, rivals = ways[0], ways[1:]
     table = Table("merge", "An object of records, and the patch", ways, words)
     check_examples(rivals, "merge")
+    if ours.command:
+        check_our_merges(ours)
     large = 100_000 // words.scale
     for records, count in ((10, 1), (10, 10), (large // 10, 1), (large // 10, large // 10), (large, 1)):
         with tempfile.NamedTemporaryFile(suffix=".json") as file, tempfile.NamedTemporaryFile("w") as patch_file, tempfile.NamedTemporaryFile("w") as case:
@@ -395,8 +408,6 @@ JOBS = {
 def run_jobs(all_ways, words):
     """Does the jobs that are asked for, and returns all results."""
     results = []
-    if words.only in (None, "find"):
-        check_examples([it for it in all_ways.of("ours", "dom", "on_demand", "rapidjson", "serde_json", "nlohmann") if it.command], "find")
     for name, job in JOBS.items():
         if words.only in (None, name):
             results += job(all_ways, words)
@@ -438,7 +449,8 @@ def main():
     if words.save and not words.check:
         save(results)
     if words.check:
-        print(f"rivals: all results are the same; {sum(map(len, EXAMPLES.values()))} examples of the RFCs")
+        examples = sum(len(it) for job, it in EXAMPLES.items() if words.only in (None, job))
+        print(f"rivals: all results are the same; {examples} examples of the RFCs")
 
 
 if __name__ == "__main__":
