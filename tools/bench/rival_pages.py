@@ -45,6 +45,7 @@ REASONS = {
     ("change", "RapidJSON"): "[ours reads the text several times](#change-a-value-in-a-text)",
     ("change", "serde_json"): "[ours reads the text several times](#change-a-value-in-a-text)",
     ("change", "nlohmann"): "[ours reads the text several times](#change-a-value-in-a-text)",
+    ("toml", "toml_edit"): "[ours reads the new text again](#change-a-value-in-a-text)",
     ("merge", "nlohmann"): "[ours copies the document](#apply-a-patch)",
     ("merge", "cJSON"): "[ours copies the document](#apply-a-patch), and sorts members, which cJSON appends to a list",
     ("document", "the Rust crate"): "[the map and the vector of the kit](LIMITS.md#collections-that-move-one-value-at-a-time)",
