@@ -9,6 +9,7 @@ pub mod Reprinting
 pub mod Results
 pub mod Differences
 pub mod Inverting
+pub mod Merging
 pub mod Documents
 pub mod Paths
 pub mod LineResults

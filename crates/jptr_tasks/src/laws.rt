@@ -10,8 +10,10 @@ ghost use Rattle.serde_json.specs.Read.{read};
 ghost use Rattle.serde_json.specs.View.{view};
 ghost use Rattle.jsonptr.specs.Text.{Text};
 ghost use Rattle.jsonptr.specs.Json.{nodes, HasSortedKeys};
+ghost use Rattle.jsonptr.specs.Node.{NodeMap};
 ghost use Rattle.jsonptr_io.specs.Lines.{AreLines};
 ghost use Rattle.jsonptr_patch.specs.Inverse.{HasDeepNodeBefore};
+ghost use Rattle.jsonptr_patch.specs.Patching.{Patches};
 ghost use Rattle.jsonptr_patch.specs.declared.comparison.Comparison.TheVariants.{Numeric};
 ghost use Rattle.jsonptr_patch.specs.declared.operation.Operation.{Operation};
 ghost use Rattle.jsonptr_patch_document.specs.Document.{IsPatch, IsNoPatch};
@@ -33,7 +35,9 @@ ghost use Rattle.jptr_tasks.specs.declared.task_error.TaskError.TheVariants.{Bad
 ghost use Rattle.jptr_tasks.specs.declared.layout.Layout.{Layout};
 ghost use Rattle.jptr_tasks.specs.declared.line.LineTask.{LineTask};
 ghost use Rattle.jptr_tasks.specs.declared.replacement.Event.TheVariants.{Create, Look, Remove, Rename, Sync, SyncFolder, TakeRights, Write};
+ghost use Rattle.jsonptr_text_value.specs.Operations.{operations_in};
 ghost use Rattle.jsonptr_text_value.specs.declared.patch_text.PatchText.{PatchText};
+ghost use Rattle.jsonptr_text_edit.specs.Edits.{EditsText};
 ghost use Rattle.jptr_tasks.specs.declared.task.Task.{Task};
 ghost use Rattle.jptr_tasks.specs.declared.task.Task.TheVariants as task;
 ghost use Rattle.jsonptr_text_edit.specs.declared.edit.Edit.TheVariants.{Patch};
@@ -101,6 +105,20 @@ pub fn printed_difference_law()
     patch_document_law();
     writing_law();
     jsonptr_patch_diff::laws::difference_law();
+    test_comparison_law();
+    comparing_patch_law();
+}
+
+/// States what an edit of a text by a patch makes, where the patch turns the document of the text into another one:
+/// the new text reads as that document. So an edit by [`merge_patch_edit`](crate::merge::merge_patch_edit) or
+/// [`merge_edit`](crate::merge::merge_edit) makes the merge.
+pub fn merge_edit_law()
+    ensures { (text new : Text) (d e : Data) (m : NodeMap) (p : PatchText)
+        → read text ≡ Some d → read new ≡ Some e
+        → Patches (nodes d) (operations_in p.operations.items) m
+        → EditsText text (Patch p) new
+        → nodes e ≡ m }
+{
     test_comparison_law();
     comparing_patch_law();
 }

@@ -6,6 +6,7 @@
 //! - [`result`]: the result of a task on one text.
 //! - [`difference`]: the patch document that turns one document into another.
 //! - [`inverse`]: the inverse of a patch document.
+//! - [`merge`]: merge patches, and the merge of two changed copies, as edits.
 //! - [`document`]: a task on one document, from a reader to a writer.
 //! - [`line`]: a task on one line, and [`lines`]: on each line of an input.
 //! - [`node`]: the type, the length and the keys of a value, and whether it equals another one.
@@ -33,6 +34,7 @@ pub mod layout;
 pub mod line;
 pub mod lines;
 pub mod long_patch;
+pub mod merge;
 pub mod node;
 pub mod operation;
 pub mod patch;
