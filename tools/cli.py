@@ -58,6 +58,7 @@ OPEN = "text is not JSON: expected a key or `}`, found the end at line 1 column 
 def cases():
     """Commands that succeed and fail, on standard input."""
     yield Case(("get", "/b"), TEXT, "1.0\n")
+    yield from fragments()
     yield Case(("get", "/a~1b/1", "-"), TEXT, "2\n")
     yield Case(("get", ""), TEXT, TEXT)
     yield Case(("get", "/a~1b"), TEXT, "[1, 2]\n")
@@ -119,6 +120,23 @@ def cases():
     yield from hints()
     yield from escaped()
     yield from failing()
+
+
+def fragments():
+    """Pointers that are written as fragments of URIs."""
+    yield Case(("get", "#/a%7E1b/1"), TEXT, "2\n")
+    yield Case(("get", "#/b", "#/a~1b/0", "-"), TEXT, "1.0\n1\n")
+    yield Case(("get", "#"), "[1]", "[1]\n")
+    yield Case(("set", "#/b", "2", "#/a~1b/-", "3"), TEXT, TEXT.replace("1.0", "2").replace("2]", "2, 3]"))
+    yield Case(("set", "--string", "/b", "#/b"), TEXT, TEXT.replace("1.0", '"#/b"'))
+    yield Case(("move", "#/b", "#/%C3%A4"), TEXT, '{\n  "a/b": [1, 2],\n  "\u00e4": 1.0\n}\n')
+    yield Case(("rename", "#/b", "#"), TEXT, TEXT.replace('"b"', '"#"'))
+    yield Case(("locate", "#/b"), TEXT, "2:8\n")
+    yield Case(("tokens", "#/a%20b"), "", '["a b"]\n')
+    yield Case(("escape", "#/b"), "", "#~1b\n")
+    error = "jptr: {0}: not a URI fragment of a JSON Pointer: {1}\n"
+    yield Case(("get", "#/%"), TEXT, "", error.format("#/%", "`%` without two hexadecimal digits at byte 2"), 2)
+    yield Case(("get", "#/a b"), TEXT, "", error.format("#/a b", "a byte that must be percent-encoded at byte 3"), 2)
 
 
 def operations():
@@ -340,7 +358,6 @@ def hints():
     """Errors that say what to type instead."""
     yield Case(("get", "f", "/name"), "", "", NO_SLASH.format(LOOKS, "f"), 2)
     yield Case(("get", ".name"), "", "", NO_SLASH.format("write /a/0 for .a[0], and '' for the whole document", ".name"), 2)
-    yield Case(("get", "#/a%20b"), "", "", NO_SLASH.format("leave out the #, and write a character for each of its %-codes", "#/a%20b"), 2)
     yield Case(("get", "/a", "/b"), "{}", "", "jptr: /b: No such file or directory (os error 2); after several pointers, write - for standard input\n", 5)
     yield Case(("delete", "/a", "/b"), "{}", "", "jptr: /b: No such file or directory (os error 2); after several pointers, write - for standard input\n", 5)
     yield Case(("patch", "-", "/dev/null"), '{"a": null}', "", "jptr: standard input: not a JSON Patch document: not an array; a merge patch (RFC 7396) is not taken\n", 3)
@@ -876,7 +893,7 @@ STATUSES = [
         (words, '{"a": 1}') for words in [
             ("get", "a"), ("get", "/a", "a", "-"), ("set", "a", "1"), ("set", "/a", "1", "a", "1"), ("delete", "a"), ("insert", "a", "1"), ("move", "a", "/a"),
             ("copy", "/a", "a"), ("rename", "a", "b"), ("keys", "a"), ("length", "a"), ("type", "a"), ("test", "a"), ("locate", "/~2"), ("tokens", "a"),
-            ("unescape", "~2"), ("get", "--lines", "a"), ("get", "--toml", "a")]]),
+            ("get", "#/%"), ("get", "#a"), ("unescape", "~2"), ("get", "--lines", "a"), ("get", "--toml", "a")]]),
     (3, "The input or an argument is not JSON or TOML", [
         (("get", "/a"), "{"), (("set", "/a", "x"), "{}"), (("get", "--toml", "/a"), "a"), (("set", "--toml", "/a", "x"), ""), (("test", "/a"), "{"),
         (("locate", "--at", "9:1"), "{"), (("diff", "-", "new.json"), ""), (("patch", "-", "new.json"), "{")]),

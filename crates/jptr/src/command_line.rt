@@ -9,13 +9,15 @@ pub mod reader;
 mod values;
 
 use crate::command_line::flags::generate_flag;
-use crate::command_line::reader::{Chosen, Declared, Table};
+use crate::command_line::reader::{Chosen, Declared, Fragment, Table};
 use crate::generate::Generated;
 use crate::invocation::Invocation;
 use crate::program_error::ProgramError;
 use clap::error::ErrorKind;
-use clap::{ArgMatches, Command, Error};
+use clap::{Command, Error};
 use jptr_tasks::exit_status::USAGE;
+use jsonptr::Fault;
+use jsonptr_fragment::from_fragment;
 use std::alloc::{AllocError, Global};
 
 /// The version of the project, as in `crates/jsonptr/VERSION`.
@@ -34,7 +36,7 @@ pub enum Parsed<'a> {
 
 /// Returns the commands, in the order of the help.
 pub fn commands(alloc: Global) -> Result<Vec<Declared>, AllocError> {
-    let table = filled(alloc, Table::new(alloc, None))?;
+    let table = filled(alloc, Table::new(alloc, None, &[]))?;
     Ok(table.commands)
 }
 
@@ -48,17 +50,50 @@ fn filled<'m, 'a>(alloc: Global, table: Table<'m, 'a>) -> Result<Table<'m, 'a>, 
     Ok(table)
 }
 
-/// Parses the words of a command line, the first of which is the program's name. The program has these
-/// commands and this help.
+/// The words of a command line, the first of which is the program's name.
+#[derive(Clone, Copy)]
+pub struct Words<'a> {
+    /// The words.
+    pub all: &'a [String],
+    /// Those that are fragments of URIs.
+    pub fragments: &'a [Fragment],
+}
+
+/// Returns the words that are fragments of URIs, with their pointers.
+pub fn fragments(alloc: Global, words: &[String]) -> Result<Vec<Fragment>, AllocError> {
+    let mut found = Vec::new(alloc);
+    for word in words {
+        if word.as_str().starts_with('#') {
+            if let Some(fragment) = fragment(alloc, word)? {
+                found.push(fragment)?;
+            }
+        }
+    }
+    Ok(found)
+}
+
+/// Returns the word with its pointer, if it is the fragment of one.
+fn fragment(alloc: Global, word: &String) -> Result<Option<Fragment>, AllocError> {
+    match from_fragment(alloc, word.as_str()) {
+        Ok(pointer) => Ok(Some(Fragment {
+            word: word.clone()?,
+            pointer: String::from_str(alloc, pointer.as_ptr().as_str())?,
+        })),
+        Err(Fault::Refused(_)) => Ok(None),
+        Err(Fault::Memory(error)) => Err(error),
+    }
+}
+
+/// Parses the words of a command line. The program has these commands and this help.
 pub fn parse<'a>(
     alloc: Global,
     commands: &[Declared],
     help: &'a str,
-    words: &'a [String],
+    words: Words<'a>,
 ) -> Result<Parsed<'a>, ProgramError> {
-    match program(alloc, commands, help)?.try_get_matches_from(words) {
+    match program(alloc, commands, help)?.try_get_matches_from(words.all) {
         Ok(matches) => match (matches.get_str(generate_flag().name), matches.subcommand()) {
-            (None, Some((name, matches))) => read(alloc, name, matches),
+            (None, Some((name, matches))) => read(alloc, Chosen { name, matches }, words),
             (Some(word), None) => made(alloc, word),
             (Some(_), Some(_)) => Err(generate_error(alloc, "goes with no command")),
             (None, None) => Err(ProgramError::of_usage(alloc, help)),
@@ -80,17 +115,17 @@ fn generate_error(alloc: Global, message: &str) -> ProgramError {
     ProgramError::new(alloc, USAGE, "--generate", message)
 }
 
-/// Reads the command with this name and these values.
+/// Reads the chosen command of these words.
 fn read<'m, 'a>(
     alloc: Global,
-    name: &'m str,
-    matches: &'m ArgMatches<'a>,
+    chosen: Chosen<'m, 'a>,
+    words: Words<'a>,
 ) -> Result<Parsed<'a>, ProgramError> {
-    let chosen = Some(Chosen { name, matches });
-    let Table { invocation, .. } = filled(alloc, Table::new(alloc, chosen))?;
+    let table = Table::new(alloc, Some(chosen), words.fragments);
+    let Table { invocation, .. } = filled(alloc, table)?;
     match invocation {
         Some(invocation) => Ok(Parsed::Run(invocation)),
-        None => Err(ProgramError::of_usage(alloc, name)),
+        None => Err(ProgramError::of_usage(alloc, chosen.name)),
     }
 }
 

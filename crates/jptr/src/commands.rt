@@ -1,6 +1,6 @@
 //! The commands.
 
-use crate::command_line::{Parsed, VERSION, commands, parse};
+use crate::command_line::{Parsed, VERSION, Words, commands, fragments, parse};
 use crate::difference::diff;
 use crate::document::{Document, FileFormat};
 use crate::help::help;
@@ -40,7 +40,12 @@ pub fn run(rt: &HostRuntime) -> Result<u8, ProgramError> {
     let words = words(rt)?;
     let commands = commands(alloc)?;
     let help = help(alloc, commands.as_slice())?;
-    match parse(alloc, commands.as_slice(), help.as_str(), words.as_slice())? {
+    let fragments = fragments(alloc, words.as_slice())?;
+    let words = Words {
+        all: words.as_slice(),
+        fragments: fragments.as_slice(),
+    };
+    match parse(alloc, commands.as_slice(), help.as_str(), words)? {
         Parsed::Run(Invocation { command, options }) => run_command(rt, command, &options),
         Parsed::Generate(kind) => {
             let text = generate::text_of(alloc, kind, VERSION, commands.as_slice())?;

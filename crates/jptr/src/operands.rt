@@ -2,7 +2,8 @@
 
 use crate::program_error::ProgramError;
 use jptr_tasks::exit_status::{FILE, USAGE};
-use jsonptr::Pointer;
+use jsonptr::{Fault, Pointer};
+use jsonptr_fragment::from_fragment;
 use std::alloc::Global;
 use std::fs;
 use std::io::ErrorKind;
@@ -44,7 +45,20 @@ fn is_in_folder(rt: &HostRuntime, path: &str) -> bool {
 pub fn pointer_of<'a>(alloc: Global, text: &'a str) -> Result<Pointer<'a>, ProgramError> {
     match Pointer::parse(text) {
         Ok(pointer) => Ok(pointer),
+        Err(_) if text.starts_with('#') => Err(fragment_error(alloc, text)),
         Err(error) => Err(ProgramError::of_pointer(alloc, text, error)),
+    }
+}
+
+/// Returns the error of an argument that begins as the fragment of a URI, and is not that of a pointer.
+fn fragment_error(alloc: Global, text: &str) -> ProgramError {
+    match from_fragment(alloc, text) {
+        Err(Fault::Refused(error)) => {
+            ProgramError::of_message(alloc, USAGE, text, error.to_string(alloc))
+        }
+        Err(Fault::Memory(_)) => ProgramError::Memory,
+        // The command line has its pointer instead.
+        Ok(_) => ProgramError::new(alloc, USAGE, text, "a fragment, not a pointer"),
     }
 }
 

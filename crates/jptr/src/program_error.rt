@@ -273,7 +273,6 @@ fn pointer_text(alloc: Global, pointer: &str, error: ParseError) -> Result<Strin
 fn pointer_hint(pointer: &str) -> &'static str {
     match pointer.as_bytes().first() {
         None | Some(b'/') => "",
-        Some(b'#') => "; leave out the #, and write a character for each of its %-codes",
         Some(b'.') => "; write /a/0 for .a[0], and '' for the whole document",
         Some(_) =>
             "; a pointer looks like /a/0 and comes before FILE, and '' is the whole document",

@@ -97,7 +97,7 @@ fn set(alloc: Global, table: &mut Table<'_, '_>) -> Result<(), AllocError> {
     )
     .explained(NO_EXPAND_MANUAL);
     let create = flag("create", "Makes the document if FILE is missing").explained(CREATE_MANUAL);
-    let pointer = reader.required(pointer())?;
+    let pointer = reader.pointer(pointer())?;
     let value = reader.required(value())?;
     let mut words = reader.several(more.taking(Dashed::Numbers))?;
     if words.len() % 2 == 1 {
@@ -112,7 +112,7 @@ fn set(alloc: Global, table: &mut Table<'_, '_>) -> Result<(), AllocError> {
     reader.comments_or_lines()?;
     let first = assignment(pointer, value, is_string);
     let assigning = Assigning {
-        assignments: assignments(alloc, first, words.as_slice())?,
+        assignments: assignments(alloc, &reader, first, words.as_slice())?,
         expands,
         creates,
     };
@@ -122,6 +122,7 @@ fn set(alloc: Global, table: &mut Table<'_, '_>) -> Result<(), AllocError> {
 /// Returns the first assignment, and one for each further pair of words.
 fn assignments<'a>(
     alloc: Global,
+    reader: &Reader<'_, 'a>,
     first: Assignment<'a>,
     words: &[&'a str],
 ) -> Result<Vec<Assignment<'a>>, AllocError> {
@@ -134,7 +135,7 @@ fn assignments<'a>(
                 found.push(assignment(pointer, *word, first.value.is_string))?;
                 before = None;
             }
-            None => before = Some(*word),
+            None => before = Some(reader.as_pointer(*word)),
         }
     }
     Ok(found)
@@ -207,7 +208,7 @@ fn insert(alloc: Global, table: &mut Table<'_, '_>) -> Result<(), AllocError> {
             INSERT_MANUAL,
         ),
     );
-    let pointer = reader.required(pointer())?;
+    let pointer = reader.pointer(pointer())?;
     let value = reader.required(value())?;
     reader.file(file())?;
     let is_string = reader.flag(string_flag())?;
@@ -272,8 +273,8 @@ fn transfer<'a>(
     reader: &mut Reader<'_, 'a>,
     help: &'static str,
 ) -> Result<Transfer<'a>, AllocError> {
-    let from = reader.required(required("FROM", "The pointer of the value"))?;
-    let path = reader.required(required("POINTER", help))?;
+    let from = reader.pointer(required("FROM", "The pointer of the value"))?;
+    let path = reader.pointer(required("POINTER", help))?;
     reader.file(file())?;
     reader.reformat(reformat_flag())?;
     reader.edits()?;
@@ -300,7 +301,7 @@ fn rename(alloc: Global, table: &mut Table<'_, '_>) -> Result<(), AllocError> {
         ),
     );
     let key = required("KEY", "The new key, as it is");
-    let pointer = reader.required(pointer())?;
+    let pointer = reader.pointer(pointer())?;
     let key = reader.required(key.taking(Dashed::Words))?;
     reader.file(file())?;
     reader.toml(toml_flag())?;

@@ -205,13 +205,23 @@ impl<'a> Reader<'_, 'a> {
         Ok(())
     }
 
+    /// Reads a pointer.
+    pub fn pointer(&mut self, argument: Argument) -> Result<&'a str, AllocError> {
+        let word = self.required(argument)?;
+        Ok(self.as_pointer(word))
+    }
+
     /// Reads a pointer, further ones, and then the file, which has to be there after several.
     pub fn pointers(&mut self) -> Result<Vec<&'a str>, AllocError> {
-        let first = self.required(pointer())?;
-        let mut more = self.several(files())?;
-        self.options.file = more.pop();
-        more.insert(0, first)?;
-        Ok(more)
+        let first = self.pointer(pointer())?;
+        let mut words = self.several(files())?;
+        self.options.file = words.pop();
+        let mut pointers = Vec::new(*words.allocator());
+        pointers.push(first)?;
+        for word in &words {
+            pointers.push(self.as_pointer(*word))?;
+        }
+        Ok(pointers)
     }
 
     /// Reads `--raw`.

@@ -44,7 +44,7 @@ fn tokens(alloc: Global, table: &mut Table<'_, '_>) -> Result<(), AllocError> {
             TOKENS_MANUAL,
         ),
     );
-    let pointer = reader.required(pointer())?;
+    let pointer = reader.pointer(pointer())?;
     reader.raw(flag("raw", "Prints each token as a line, without quotes"))?;
     table.end(reader, Command::Tokens(pointer))
 }

@@ -44,6 +44,15 @@ pub struct Declared {
     pub arguments: Vec<Argument>,
 }
 
+/// A word of the command line that is the fragment of a URI (RFC 6901, section 6), and its pointer.
+#[derive(Drop)]
+pub struct Fragment {
+    /// The word.
+    pub word: String,
+    /// The text of the pointer.
+    pub pointer: String,
+}
+
 /// The command that was chosen, and the values of its arguments.
 #[derive(Clone, Copy)]
 pub struct Chosen<'m, 'a> {
@@ -62,15 +71,22 @@ pub struct Table<'m, 'a> {
     pub invocation: Option<Invocation<'a>>,
     /// The chosen command, if one is read.
     chosen: Option<Chosen<'m, 'a>>,
+    /// The words of the command line that are fragments of URIs.
+    fragments: &'a [Fragment],
 }
 
 impl<'m, 'a> Table<'m, 'a> {
     /// Returns the table without commands.
-    pub fn new(alloc: Global, chosen: Option<Chosen<'m, 'a>>) -> Table<'m, 'a> {
+    pub fn new(
+        alloc: Global,
+        chosen: Option<Chosen<'m, 'a>>,
+        fragments: &'a [Fragment],
+    ) -> Table<'m, 'a> {
         Table {
             commands: Vec::new(alloc),
             invocation: None,
             chosen,
+            fragments,
         }
     }
 
@@ -86,6 +102,7 @@ impl<'m, 'a> Table<'m, 'a> {
             matches,
             arguments: Vec::new(alloc),
             options: Options::new(),
+            fragments: self.fragments,
         }
     }
 
@@ -122,12 +139,24 @@ pub struct Reader<'m, 'a> {
     arguments: Vec<Argument>,
     /// What was read of the flags that several commands take.
     pub options: Options<'a>,
+    /// The words of the command line that are fragments of URIs.
+    fragments: &'a [Fragment],
 }
 
 impl<'m, 'a> Reader<'m, 'a> {
     /// Returns the value of an argument that has to be there.
     pub fn required(&mut self, argument: Argument) -> Result<&'a str, AllocError> {
         Ok(self.optional(argument)?.unwrap_or(""))
+    }
+
+    /// Returns the word as a pointer: the pointer of the fragment of a URI that it is, or else the word itself.
+    pub fn as_pointer(&self, word: &'a str) -> &'a str {
+        for fragment in self.fragments {
+            if fragment.word.as_str() == word {
+                return fragment.pointer.as_str();
+            }
+        }
+        word
     }
 
     /// Returns the value of an argument, or of a flag.

@@ -127,7 +127,7 @@ fn keys(alloc: Global, table: &mut Table<'_, '_>) -> Result<(), AllocError> {
             KEYS_MANUAL,
         ),
     );
-    let pointer = reader.required(pointer())?;
+    let pointer = reader.pointer(pointer())?;
     reader.file(file())?;
     reader.raw(flag("raw", "Prints each key without quotes"))?;
     reader.toml(toml_flag())?;
@@ -151,7 +151,7 @@ fn length(alloc: Global, table: &mut Table<'_, '_>) -> Result<(), AllocError> {
             LENGTH_MANUAL,
         ),
     );
-    let pointer = reader.required(pointer())?;
+    let pointer = reader.pointer(pointer())?;
     reader.file(file())?;
     reader.toml(toml_flag())?;
     reader.comments()?;
@@ -180,7 +180,7 @@ fn type_of(alloc: Global, table: &mut Table<'_, '_>) -> Result<(), AllocError> {
             TYPE_MANUAL,
         ),
     );
-    let pointer = reader.required(pointer())?;
+    let pointer = reader.pointer(pointer())?;
     reader.file(file())?;
     reader.toml(toml_flag())?;
     reader.comments()?;
@@ -219,7 +219,7 @@ fn test(alloc: Global, table: &mut Table<'_, '_>) -> Result<(), AllocError> {
         "string",
         "Takes JSON as a string, without quotes and escapes",
     );
-    let pointer = reader.required(pointer())?;
+    let pointer = reader.pointer(pointer())?;
     let word = reader.optional(value.taking(Dashed::Numbers))?;
     reader.file(file())?;
     let is_string = reader.flag(string.needing("JSON"))?;
@@ -274,5 +274,9 @@ fn locate(alloc: Global, table: &mut Table<'_, '_>) -> Result<(), AllocError> {
     reader.file(file())?;
     let position = reader.optional(at)?;
     reader.comments()?;
+    let first = match (first, position) {
+        (Some(word), None) => Some(reader.as_pointer(word)),
+        (first, _) => first,
+    };
     table.end(reader, Command::Locate(Locating { first, position }))
 }

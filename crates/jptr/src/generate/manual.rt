@@ -26,6 +26,10 @@ is missing or
 .Sq - .
 .Ar POINTER
 is a JSON Pointer, as defined in RFC 6901.
+One that begins with
+.Sq #
+is the fragment of a URI, with its characters encoded as in section 6 there.
+It names one value: no token stands for several.
 The empty pointer is the whole document:
 .Ql jptr keys \(aq\(aq app.json .
 Its last token
