@@ -61,6 +61,10 @@ and an object for any other, and a scalar there is replaced by one.
 const NO_EXPAND_MANUAL: &str = r#"Fails if
 .Cm set
 would create a container on the way to the value, or replace a scalar there.
+The last token is still added if it is missing;
+to change only a value that is there, ask
+.Cm test
+first.
 "#;
 
 /// What the manual says of `--create`.
@@ -71,6 +75,7 @@ makes the document if
 is missing; with
 .Fl -in-place
 the file is written.
+One that is there is edited all the same.
 "#;
 
 /// Declares `set`.

@@ -21,6 +21,7 @@ const COMMENTS_MANUAL: &str =
 .Sq .jsonc .
 A value is printed without them.
 An edit keeps them: those inside a value that is replaced or deleted go with it, and so do those after a deleted one on its line.
+One above it stays.
 Those between that line and a comma on a later one stay.
 A value that is moved must have none of these: the error names the line and the column of the first one.
 Where they cannot be kept, it fails with status 6.
@@ -166,7 +167,7 @@ the inode, the size, the time of modification and the time of change are compare
 "#;
 
 /// What the manual says of `--string`.
-const STRING_MANUAL: &str = r#"Takes the value of
+const STRING_MANUAL: &str = r#"Takes each value of
 .Cm set ,
 .Cm insert
 or
