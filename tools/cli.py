@@ -800,6 +800,15 @@ def usage():
     yield ("get", "/a", "--toml", "--comments")
     yield ("paths", "--toml", "--comments")
     yield ("diff", "f", "g", "--color", "always")
+    yield ("merge-patch",)
+    yield ("merge-patch", "-", "-")
+    yield ("merge-patch", "-", "-", "--lines")
+    yield ("merge-patch", "f", "-i")
+    yield ("merge", "f", "g")
+    yield ("merge", "-", "f", "-")
+    yield ("merge", "f", "-", "g", "-i")
+    yield ("merge", "f", "g", "h", "--ours", "--theirs")
+    yield ("merge", "f", "g", "h.toml")
     yield ("paths", "/a", "f")
     yield ("paths", "--pretty")
     yield ("from-paths", "--all")
@@ -871,15 +880,19 @@ EXAMPLE_FILES = {
     "old.json": '{"name": "old"}\n',
     "new.json": '{"name": "new"}\n',
     "patch.json": '[{"op": "test", "path": "/sizes/1", "value": 5}]\n',
+    "overlay.json": '{"name": "site"}\n',
+    "base.json": '{"a": 1}\n',
+    "ours.json": '{"a": 1, "b": 2}\n',
+    "theirs.json": '{"a": 3}\n',
 }
 DEEP = "[" * 126 + "]" * 126
 # The sentences of the table of exit statuses, each with runs that end so: arguments, and the input. One that is to run out of
 # memory has none.
 STATUSES = [
     (0, "Done, also if nobody reads the output any more, as after | head -1", [(("get", "/a"), '{"a": 1}')]),
-    (1, "No: test finds another value or none, the documents of diff differ, or a patch does not apply", [
+    (1, "No: test finds another value or none, the documents of diff differ, those of merge have a conflict, or a patch does not apply", [
         (("test", "/a", "2"), '{"a": 1}'), (("test", "/b"), '{"a": 1}'), (("diff", "old.json", "new.json"), ""),
-        (("patch", "patch.json"), '{"sizes": []}'), (("patch", "--check", "patch.json"), '{"sizes": [1, 2]}')]),
+        (("merge", "app.json", "old.json", "new.json"), ""), (("patch", "patch.json"), '{"sizes": []}'), (("patch", "--check", "patch.json"), '{"sizes": [1, 2]}')]),
     (1, "A pointer leads to no value", [
         ((*words, "/b", *more), '{"a": 1}') for words, more in [
             (("get",), ()), (("delete",), ()), (("keys",), ()), (("length",), ()), (("type",), ()), (("locate",), ()), (("rename",), ("c",)),
@@ -1026,6 +1039,7 @@ COMPLETIONS = [
     ("set /a --st", "--string --strict"), ("set /a 1 app", "app.json"), ("delete --indent t", "tab"), ("keys app", ""),
     ("keys /a app", "app.json"), ("test /a app", ""), ("test /a 1 app", "app.json"), ("patch app", "app.json"),
     ("patch --inverse app", "app.json"), ("format --in", "--indent --in-place"), ("tokens app", ""), ("escape app", ""),
+    ("merge ap", "app.json"), ("merge a b ap", "app.json"), ("merge-patch ap", "app.json"), ("merge-patch a ap", "app.json"),
     ("locate app", ""), ("locate /a app", "app.json"), ("locate --at 1:1 app", "app.json"), ("--generate f", "fish"), ("set /a 1 app --color ne", "never"),
 ]
 
@@ -1823,6 +1837,76 @@ def check_relayout(folder, shim):
     return runs + requests + 1
 
 
+CONFLICT = """jptr: FILE1: 2 conflicts: --ours and --theirs decide them
+/a
+  base    1
+  ours    1.5
+  theirs  (none)
+/b~1c/d
+  base    (none)
+  ours    "x\\u001b"
+  theirs  [1,null]
+"""
+MERGE_BASE, MERGE_THEIRS = '{"a": 1, "b/c": {}, "e": [1.0]}', '{"b/c": {"d": [1,  null]}, "e": [1.00, 2.50]}'
+MERGE_OURS = '{\n  "e": [1.0], "a": 1.50,\n  "b/c": {"d": "x\\u001b"}\n}\n'
+# Merges: flags, the texts of the documents, and what is printed. Merge patches have two documents.
+MERGES = [
+    (("--ours",), (MERGE_BASE, MERGE_OURS, MERGE_THEIRS), MERGE_OURS.replace("[1.0]", "[1.0, 2.50]")),
+    (("--theirs",), (MERGE_BASE, MERGE_OURS, MERGE_THEIRS), '{\n  "e": [1.0, 2.50],\n  "b/c": {"d": [1, null]}\n}\n'),
+    (("--ours", "--comments"), ("[1]", "[1, // one\n2]\n", "[1,]"), "[1, // one\n2]\n"),
+    ((), ("{}", '{"a": 1}', '{"b": 0.10}'), '{"a": 1, "b": 0.10}'),
+    ((), ('{"a": {"b": 1.10, "c": null}, "d": null}', '{"d": 1, "e": [1.0]}'), '{"e": [1.0], "a": {"b": 1.1}}'),
+    ((), ('{"d": 1.00}', '{"d": 1.0}'), '{"d": 1.0}'),
+    ((), ("7e0", "{}\n"), "7e0\n"),
+]
+# Merges that fail: flags, the texts of the documents, the error and the status.
+NOT_MERGED = [
+    ((), (MERGE_BASE, MERGE_OURS, MERGE_THEIRS), CONFLICT, 1),
+    ((), ("1e-400", "2", "2"), "jptr: FILE0: the number loses digits: use --lossy\n", 3),
+    ((), ("1e-400", "2"), "jptr: FILE0: the number loses digits: use --lossy\n", 3),
+    ((), ("{", "2", "2"), "jptr: FILE0: " + OPEN, 3),
+    ((), ("2", "{"), "jptr: FILE1: " + OPEN, 3),
+]
+
+
+def check_merges(folder, shim):
+    """Checks `merge-patch` and `merge`, also where a memory request fails, and returns the number of runs."""
+    runs = 0
+    for flags_, texts, wanted in MERGES:
+        paths, files = merge_files(folder, texts)
+        merged_files = {**files, paths[1]: wanted}
+        command = "merge" if len(texts) == 3 else "merge-patch"
+        runs += check_memory(Case((command, *flags_, *paths), "", wanted), shim)
+        words = [PROGRAM, command, *flags_, *paths, "-i"]
+        _, requests, _ = run_with_shim(words, "", shim, 0, count="run", may_keep=True)
+        expect_files(folder, merged_files)
+        for fail in range(1, requests + 1):
+            merge_files(folder, texts)
+            given, _, _ = run_with_shim(words, "", shim, fail, count="run", may_keep=True)
+            expect_files(folder, files if given.returncode else merged_files)
+        runs += requests + 1
+    for flags_, texts, errors, status in NOT_MERGED:
+        paths, files = merge_files(folder, texts)
+        for number, path in enumerate(paths):
+            errors = errors.replace(f"FILE{number}", path)
+        for more in ((), ("-i",), *([("--git",)] if len(texts) == 3 else [])):
+            words = ("merge" if len(texts) == 3 else "merge-patch", *flags_, *paths, *more)
+            check_result(Case(words, "", "", errors, status), run(words))
+            expect_files(folder, files)
+            runs += 1
+    return runs
+
+
+def merge_files(folder, texts):
+    """Writes the files of a merge, of which the second one is changed in place. Returns their paths, and their texts by these."""
+    for name in os.listdir(folder):
+        os.unlink(f"{folder}/{name}")
+    files = {f"{folder}/{number}.json": text for number, text in enumerate(texts)}
+    for path, text in files.items():
+        write(path, text)
+    return list(files), files
+
+
 def check_locked(folder, path):
     """Checks that a file in a folder that cannot be written stays as it is."""
     if os.getuid() != 0:
@@ -1916,13 +2000,14 @@ def main():
         shim = build_shim(folder)
         # First, and alone: a process that another thread starts can hold the end of a pipe that is closed here.
         runs = check_streams() + check_usage()
-        for name in ["files", "in_place", "inverse", "drawings", "changes", "commented", "layouts", "long", "guide", "completions", "missing", "statuses"]:
+        for name in ["files", "in_place", "inverse", "drawings", "changes", "commented", "layouts", "long", "merges", "guide", "completions", "missing", "statuses"]:
             os.mkdir(f"{folder}/{name}")
         runs += check_completions(f"{folder}/completions")
         runs += check_statuses(f"{folder}/statuses", shim) + check_help_examples(f"{folder}/statuses")
         runs += check_missing_value(f"{folder}/missing")
         runs += check_files(f"{folder}/files") + check_in_place(f"{folder}/in_place") + check_lines()
         runs += check_inverse(f"{folder}/inverse", shim) + check_relayout(f"{folder}/layouts", shim)
+        runs += check_merges(f"{folder}/merges", shim)
         runs += check_patched(f"{folder}/inverse") + check_drawings(f"{folder}/drawings") + check_changes(f"{folder}/changes")
         runs += check_commented(f"{folder}/commented")
         runs += check_long(f"{folder}/long", shim)

@@ -59,7 +59,7 @@ fn change(alloc: Global, document: &Value, operation: &Operation) -> Result<Stri
 }
 
 /// Returns the pointer as it is shown: as `paths` prints it, or two quotes for the root.
-fn shown_pointer(alloc: Global, pointer: &PointerBuf) -> Result<String, AllocError> {
+pub fn shown_pointer(alloc: Global, pointer: &PointerBuf) -> Result<String, AllocError> {
     let pointer = pointer.as_ptr();
     if !pointer.is_root() && !pointer.as_str().chars().any(is_unprintable) {
         return String::from_str(alloc, pointer.as_str());
@@ -77,7 +77,7 @@ fn value_at(alloc: Global, document: &Value, pointer: &PointerBuf) -> Result<Str
 }
 
 /// Returns the JSON text of a value as it is shown.
-fn shown_value(alloc: Global, value: &Value) -> Result<String, AllocError> {
+pub fn shown_value(alloc: Global, value: &Value) -> Result<String, AllocError> {
     let text = show(alloc, value, Layout::Compact)?;
     shown(alloc, text.as_str())
 }

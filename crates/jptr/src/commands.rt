@@ -11,6 +11,7 @@ use crate::invocation::{
 };
 use crate::locate::locate;
 use crate::long_patch::patch_long;
+use crate::merge::{merge, merge_patch};
 use crate::node::{Property, print_node, test};
 use crate::operands::{check_json, check_last_word, is_toml_name, pointer_of};
 use crate::operation::{copy_value, insert, move_value, rename};
@@ -91,6 +92,8 @@ fn run_command(
         Command::Copy(transfer) => copy_value(rt, options, transfer),
         Command::Rename(renaming) => rename(rt, options, renaming),
         Command::Patch(patching) => patch(rt, options, patching),
+        Command::MergePatch(patch) => merge_patch(rt, options, patch),
+        Command::Merge(merging) => merge(rt, options, merging),
         Command::Diff(comparing) => diff(rt, options, comparing),
         Command::Format(formatted) => format(rt, options, formatted),
         Command::Relayout(new) => relayout(rt, options, new),

@@ -75,5 +75,5 @@ fn push_command(
     name: &str,
     about: &str,
 ) -> Result<(), AllocError> {
-    text.push_str(format!(in alloc; "  {name:<10}  {about}\n")?.as_str())
+    text.push_str(format!(in alloc; "  {name:<11}  {about}\n")?.as_str())
 }

@@ -41,6 +41,10 @@ pub enum Command<'a> {
     Rename(Renaming<'a>),
     /// Applies a patch document.
     Patch(Patching<'a>),
+    /// Applies this merge patch.
+    MergePatch(&'a str),
+    /// Merges two changed copies of a document.
+    Merge(Merging<'a>),
     /// Compares two documents.
     Diff(Comparing<'a>),
     /// Lays a document out anew.
@@ -164,6 +168,26 @@ pub struct Patching<'a> {
     pub is_check: bool,
     /// The file for the patch that takes this one back.
     pub undo: Option<&'a str>,
+}
+
+/// What `merge` needs. The first copy is the file of the document.
+#[derive(Clone, Copy)]
+pub struct Merging<'a> {
+    /// The document that both copies were made of.
+    pub base: &'a str,
+    /// The second copy.
+    pub theirs: &'a str,
+    /// Which copy decides conflicts, if one does.
+    pub side: Option<MergeSide>,
+}
+
+/// Which copy decides conflicts.
+#[derive(Clone, Copy, PartialEq, Eq)]
+pub enum MergeSide {
+    /// The first copy.
+    Ours,
+    /// The second copy.
+    Theirs,
 }
 
 /// What `diff` needs.

@@ -26,6 +26,7 @@ mod invocation;
 mod locate;
 mod long_patch;
 mod lost_comment;
+mod merge;
 mod node;
 mod operands;
 mod operation;

@@ -1,15 +1,18 @@
 //! The commands on whole documents, with their arguments and flags.
 
 use crate::command_line::argument::{Argument, Completion, Kind};
-use crate::command_line::flags::{COLORS, file, flag, in_place_flag, optional, required};
+use crate::command_line::flags::{
+    COLORS, SORTED, file, flag, in_place_flag, optional, reformat_flag, required,
+};
 use crate::command_line::reader::{Entry, Group, Table};
-use crate::invocation::{Command, Comparing, Formatted};
+use crate::invocation::{Command, Comparing, Formatted, MergeSide, Merging};
 use jsonptr_text_paths::listing::Listed;
 use std::alloc::{AllocError, Global};
 
 /// Declares the commands.
 pub fn declare(alloc: Global, table: &mut Table<'_, '_>) -> Result<(), AllocError> {
     diff(alloc, table)?;
+    merge(alloc, table)?;
     format(alloc, table)?;
     relayout(alloc, table)?;
     paths(alloc, table)?;
@@ -93,6 +96,112 @@ fn diff(alloc: Global, table: &mut Table<'_, '_>) -> Result<(), AllocError> {
     reader.comments()?;
     reader.layout()?;
     table.end(reader, Command::Diff(comparing))
+}
+
+/// What the manual says of `merge`.
+const MERGE_MANUAL: &str = r#"Merges
+.Ar OURS
+and
+.Ar THEIRS ,
+two changed copies of the document
+.Ar BASE ,
+and prints the merge in the layout of
+.Ar OURS .
+What one of them changed is so, and what both changed alike.
+Members of objects are merged one by one; an array is one value.
+A value that differs in all three is a conflict:
+each is shown on standard error with its pointer and the three values, nothing is printed, and the status is 1.
+A member that is missing counts as a value, and is shown as
+.Sq (none) .
+A number that loses digits is an error.
+"#;
+
+/// What the manual says of `--ours`.
+const OURS_MANUAL: &str = r#"With
+.Cm merge ,
+takes the value of
+.Ar OURS
+at each conflict.
+"#;
+
+/// What the manual says of `--theirs`.
+const THEIRS_MANUAL: &str = r#"With
+.Cm merge ,
+takes the value of
+.Ar THEIRS
+at each conflict.
+"#;
+
+/// What the manual says of `--git`.
+const GIT_MANUAL: &str = r#"Merges for
+.Xr git 1 :
+writes the merge to
+.Ar OURS ,
+which stays as it is if there is a conflict,
+and takes comments and trailing commas in all three files, whose names git makes.
+The file has no marks of a conflict.
+After
+.Ql git config merge.jptr.driver \(aqjptr merge --git \&%O \&%A \&%B\(aq ,
+a line
+.Ql *.json merge=jptr
+of
+.Pa .gitattributes
+has git merge such files so.
+"#;
+
+/// Declares `merge`.
+fn merge(alloc: Global, table: &mut Table<'_, '_>) -> Result<(), AllocError> {
+    let mut reader = table.begin(
+        alloc,
+        entry(
+            "merge",
+            "Prints the merge of two changed copies of a document. The exit status is 1 if there is a conflict",
+            "Example: jptr merge base.json ours.json theirs.json",
+            MERGE_MANUAL,
+        ),
+    );
+    let base = required("BASE", "The document before, or - for standard input").completed_by(
+        Completion::Files,
+    );
+    let ours = required("OURS", "The copy with the layout, or - for standard input").completed_by(
+        Completion::Files,
+    );
+    let theirs = required("THEIRS", "The other copy, or - for standard input").completed_by(
+        Completion::Files,
+    );
+    let take_ours = flag("ours", "Takes the value of OURS at each conflict").explained(OURS_MANUAL);
+    let take_theirs = flag("theirs", "Takes the value of THEIRS at each conflict").explained(
+        THEIRS_MANUAL,
+    );
+    let git = flag(
+        "git",
+        "Merges for git: writes the merge to OURS, and takes comments in all three files",
+    )
+    .explained(GIT_MANUAL);
+    let in_place = Argument::new(
+        "in-place",
+        Kind::Letter('i'),
+        "Changes OURS, and prints nothing",
+    );
+    let base = reader.required(base)?;
+    reader.file(ours)?;
+    let theirs = reader.required(theirs)?;
+    let is_ours = reader.flag(take_ours.excluding("theirs"))?;
+    let is_theirs = reader.flag(take_theirs)?;
+    reader.reformat(reformat_flag())?;
+    reader.order(SORTED)?;
+    reader.in_place(in_place)?;
+    reader.comments()?;
+    reader.git(git)?;
+    let side = if is_ours {
+        Some(MergeSide::Ours)
+    } else if is_theirs {
+        Some(MergeSide::Theirs)
+    } else {
+        None
+    };
+    let merging = Merging { base, theirs, side };
+    table.end(reader, Command::Merge(merging))
 }
 
 /// What the manual says of `format`.

@@ -17,7 +17,8 @@ pub fn declare(alloc: Global, table: &mut Table<'_, '_>) -> Result<(), AllocErro
     move_value(alloc, table)?;
     copy_value(alloc, table)?;
     rename(alloc, table)?;
-    patch(alloc, table)
+    patch(alloc, table)?;
+    merge_patch(alloc, table)
 }
 
 /// Returns what the helps say of a command of this group.
@@ -386,4 +387,38 @@ fn patch(alloc: Global, table: &mut Table<'_, '_>) -> Result<(), AllocError> {
         undo,
     };
     table.end(reader, Command::Patch(patching))
+}
+
+/// What the manual says of `merge-patch`.
+const MERGE_PATCH_MANUAL: &str = r#"Applies the JSON Merge Patch of
+.Ar PATCHFILE ,
+or of standard input if it is
+.Sq - ,
+as defined in RFC 7396, and prints the document.
+A null removes a member, an object is merged, and any other value replaces the one of the document.
+Only the members that change are edited in the text.
+A member that has the value already stays as it is written, and numbers have the same value if they are the same double.
+"#;
+
+/// Declares `merge-patch`.
+fn merge_patch(alloc: Global, table: &mut Table<'_, '_>) -> Result<(), AllocError> {
+    let mut reader = table.begin(
+        alloc,
+        entry(
+            "merge-patch",
+            "Prints the document after a JSON Merge Patch (RFC 7396), which has the members that change",
+            "Example: jptr merge-patch overlay.json app.json",
+            MERGE_PATCH_MANUAL,
+        ),
+    );
+    let patch = required("PATCHFILE", "The merge patch, or - for standard input").completed_by(
+        Completion::Files,
+    );
+    let patch = reader.required(patch)?;
+    reader.file(file())?;
+    reader.reformat(reformat_flag())?;
+    reader.order(SORTED)?;
+    reader.in_place(in_place_flag())?;
+    reader.comments()?;
+    table.end(reader, Command::MergePatch(patch))
 }

@@ -176,6 +176,9 @@ as a string, without quotes and escapes.
 A
 .Cm @
 at its start has no meaning then.
+A value that may begin with a dash, as that of a variable, needs
+.Fl -
+before the pointer.
 "#;
 
 /// What the manual says of `--toml`.
@@ -337,6 +340,15 @@ impl<'a> Reader<'_, 'a> {
     /// Reads `--in-place`.
     pub fn in_place(&mut self, argument: Argument) -> Result<(), AllocError> {
         self.options.is_in_place = self.flag(argument)?;
+        Ok(())
+    }
+
+    /// Reads the flag for git: the file is changed, and may have comments.
+    pub fn git(&mut self, argument: Argument) -> Result<(), AllocError> {
+        if self.flag(argument)? {
+            self.options.is_in_place = true;
+            self.options.format_flag = FormatFlag::Comments;
+        }
         Ok(())
     }
 

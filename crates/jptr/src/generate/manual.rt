@@ -100,7 +100,9 @@ No:
 .Cm test
 finds another value or none, the documents of
 .Cm diff
-differ, or a patch does not apply.
+differ, those of
+.Cm merge
+have a conflict, or a patch does not apply.
 A pointer leads to no value.
 A value has no keys or no length.
 A document is not laid out as
