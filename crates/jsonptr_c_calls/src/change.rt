@@ -1,6 +1,6 @@
 //! What an edit changes in a text.
-ghost use Rattle.std.specs.Prelude.{◌≡◌, ◌≤◌, length, drop, take};
-ghost use Rattle.jsonptr_c_calls.specs.Changing.{IsChange};
+ghost use Rattle.std.specs.Prelude.{◌≡◌, ◌⊎◌, ◌↔◌, ◌≤◌, ℕ, IsTrue, length, drop, take};
+ghost use Rattle.jsonptr_c_calls.specs.Changing.{IsBetween, IsChange, IsSmallest, starts_inside};
 
 /// The bytes that an edit replaces in a text, and those that are there afterwards.
 #[repr(C)]
@@ -29,7 +29,7 @@ struct Ends {
 
 impl Change {
     /// Returns the change from one text to another: what is between their longest common start and their
-    /// longest common end, without parts of characters. That these are the longest ones is tested.
+    /// longest common end, without parts of characters.
     ///
     /// # Examples
     ///
@@ -43,6 +43,7 @@ impl Change {
     /// ```
     pub fn between(old: &str, new: &str, is_reformatted: bool) -> Change
         ensures change { IsChange old.now new.now result }
+        ensures smallest { IsSmallest old.now new.now result }
         ensures reformatted { result.is_reformatted ≡ is_reformatted }
     {
         let (old, new) = (old.as_bytes(), new.as_bytes());
@@ -63,6 +64,8 @@ fn same_start(old: &[u8], new: &[u8]) -> usize
     ensures old { result ≤ length old.now }
     ensures new { result ≤ length new.now }
     ensures same { take result old.now ≡ take result new.now }
+    ensures longest { (n : ℕ) → n ≤ length old.now → n ≤ length new.now
+        → take n old.now ≡ take n new.now → n ≤ result }
 {
     let mut n = 0usize;
     while n < old.len() && n < new.len() && old[n] == new[n] {
@@ -75,10 +78,12 @@ fn same_start(old: &[u8], new: &[u8]) -> usize
 fn character_start(old: &[u8], new: &[u8], offset: usize) -> usize
     requires same { take offset old.now ≡ take offset new.now }
     ensures before { result ≤ offset }
+    ensures longest { (n : ℕ) → n ≤ offset → IsBetween old.now n → IsBetween new.now n → n ≤ result }
+    ensures between { (result ≡ 0) ⊎ (IsBetween old.now result × IsBetween new.now result) }
     ensures same { take result old.now ≡ take result new.now }
 {
     let mut n = offset;
-    while n > 0 && (is_inside(old, n) || is_inside(new, n)) {
+    while n > 0 && !is_between(old, new, n) {
         n -= 1;
     }
     n
@@ -91,6 +96,8 @@ fn same_ends(old: &[u8], new: &[u8], start: usize) -> Ends
     ensures old { (start ≤ result.old) × (result.old ≤ length old.now) }
     ensures new { (start ≤ result.new) × (result.new ≤ length new.now) }
     ensures same { drop result.old old.now ≡ drop result.new new.now }
+    ensures longest { (i j : ℕ) → start ≤ i → i ≤ length old.now → start ≤ j → j ≤ length new.now
+        → drop i old.now ≡ drop j new.now → result.old ≤ i }
 {
     let (mut i, mut j) = (old.len(), new.len());
     while i > start && j > start && old[i - 1] == new[j - 1] {
@@ -109,6 +116,8 @@ fn character_ends(old: &[u8], new: &[u8], ends: Ends) -> Ends
     ensures old { (ends.old ≤ result.old) × (result.old ≤ length old.now) }
     ensures new { (ends.new ≤ result.new) × (result.new ≤ length new.now) }
     ensures same { drop result.old old.now ≡ drop result.new new.now }
+    ensures longest { (i : ℕ) → ends.old ≤ i → IsBetween old.now i → result.old ≤ i }
+    ensures between { IsBetween old.now result.old × IsBetween new.now result.new }
 {
     let (mut i, mut j) = (ends.old, ends.new);
     while i < old.len() && j < new.len() && is_inside(old, i) {
@@ -118,7 +127,16 @@ fn character_ends(old: &[u8], new: &[u8], ends: Ends) -> Ends
     Ends { old: i, new: j }
 }
 
+/// Returns whether the offset is between two characters of both texts, or at an end.
+fn is_between(old: &[u8], new: &[u8], offset: usize) -> bool
+    ensures { IsTrue result ↔ IsBetween old.now offset × IsBetween new.now offset }
+{
+    !is_inside(old, offset) && !is_inside(new, offset)
+}
+
 /// Returns whether the byte at the offset is of a character that begins before it.
-fn is_inside(text: &[u8], offset: usize) -> bool {
+fn is_inside(text: &[u8], offset: usize) -> bool
+    ensures { result ≡ starts_inside (drop offset text.now) }
+{
     matches!(text.get(offset), Some(0x80..=0xBF))
 }
