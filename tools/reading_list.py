@@ -101,6 +101,12 @@ OTHERS = {
         ("jsonptr_c_calls/src/locations.rt", ["locate", "pointer_at"]),
         ("jsonptr_c_calls/src/outcome.rt", ["succeed", "fail", "fail_with_length"]),
         ("jsonptr_c_calls/src/message.rt", ["message"]),
+        ("jsonptr_c_calls/src/values.rt", ["quote"]),
+    ],
+    "texts for C": [
+        ("jsonptr_c_calls/src/text_calls.rt", [
+            "open", "free", "assign", "delete", "rename", "patch", "relayout", "remove_comments", "locate", "pointer_at", "copy",
+        ]),
     ],
 }
 # Files of a few lines that nearly every statement needs, in one sentence of the page.

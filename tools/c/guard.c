@@ -36,7 +36,7 @@ uint32_t jsonptrcore_document_patch_with_inverse(jsonptr_document *document, con
                                                  jsonptr_error *error);
 uint32_t jsonptrcore_document_diff(jsonptr_document *from, jsonptr_document *to, bool is_pretty, char *out,
                                    size_t capacity, size_t *length, jsonptr_error *error);
-uint32_t jsonptrcore_text_open(jsonptr_text *text, bool has_comments, const char *bytes, size_t bytes_length,
+uint32_t jsonptrcore_text_open(jsonptr_text *text, uint32_t format, const char *bytes, size_t bytes_length,
                                jsonptr_error *error);
 void jsonptrcore_text_free(jsonptr_text *text);
 uint32_t jsonptrcore_text_assign(jsonptr_text *text, const char *pointer, size_t pointer_length, const char *value,
@@ -47,6 +47,8 @@ uint32_t jsonptrcore_text_rename(jsonptr_text *text, const char *pointer, size_t
                                  size_t key_length, bool may_reformat, jsonptr_change *change, jsonptr_error *error);
 uint32_t jsonptrcore_text_patch(jsonptr_text *text, const char *patch, size_t patch_length, bool may_reformat,
                                 jsonptr_change *change, jsonptr_error *error);
+uint32_t jsonptrcore_text_relayout(jsonptr_text *text, const char *json, size_t json_length, bool may_reformat,
+                                   jsonptr_change *change, jsonptr_error *error);
 uint32_t jsonptrcore_text_remove_comments(jsonptr_text *text, jsonptr_error *error);
 uint32_t jsonptrcore_text_locate(jsonptr_text *text, const char *pointer, size_t pointer_length, size_t *start,
                                  size_t *end, jsonptr_error *error);
@@ -54,6 +56,8 @@ uint32_t jsonptrcore_text_pointer_at(jsonptr_text *text, size_t offset, char *ou
                                      jsonptr_error *error);
 uint32_t jsonptrcore_text_copy(jsonptr_text *text, size_t start, size_t end, char *out, size_t capacity, size_t *length,
                                jsonptr_error *error);
+uint32_t jsonptrcore_quote(const char *string, size_t string_length, char *out, size_t capacity, size_t *length,
+                           jsonptr_error *error);
 uint32_t jsonptrcore_resolve_in_text(const char *text, size_t text_length, const char *pointer, size_t pointer_length,
                                 bool is_pretty, char *out, size_t capacity, size_t *length, jsonptr_error *error);
 uint32_t jsonptrcore_lost_number_in_text(const char *text, size_t text_length, bool *found, char *out, size_t capacity,
@@ -297,12 +301,10 @@ jsonptr_status jsonptr_document_diff(const jsonptr_document *from, const jsonptr
 jsonptr_status jsonptr_text_open(jsonptr_text *text, uint32_t format, const char *bytes, size_t bytes_length,
                                  jsonptr_error *error) {
     unwanted none;
-    if (text == NULL || (format != JSONPTR_FORMAT_JSON && format != JSONPTR_FORMAT_JSONC) ||
-        !is_slice(bytes, bytes_length)) {
+    if (text == NULL || format > JSONPTR_FORMAT_TOML || !is_slice(bytes, bytes_length)) {
         return bad_argument(error);
     }
-    return jsonptrcore_text_open(text, format == JSONPTR_FORMAT_JSONC, start_of(bytes), bytes_length,
-                                 OR(error, none.error));
+    return jsonptrcore_text_open(text, format, start_of(bytes), bytes_length, OR(error, none.error));
 }
 
 void jsonptr_text_free(jsonptr_text *text) {
@@ -351,6 +353,16 @@ jsonptr_status jsonptr_text_patch(jsonptr_text *text, const char *patch, size_t 
                                   OR(change, none.change), OR(error, none.error));
 }
 
+jsonptr_status jsonptr_text_relayout(jsonptr_text *text, const char *json, size_t json_length, uint32_t flags,
+                                     jsonptr_change *change, jsonptr_error *error) {
+    unwanted none;
+    if (text == NULL || !is_slice(json, json_length) || !is_edit(flags)) {
+        return bad_argument(error);
+    }
+    return jsonptrcore_text_relayout(text, start_of(json), json_length, flags & JSONPTR_REFORMAT,
+                                     OR(change, none.change), OR(error, none.error));
+}
+
 jsonptr_status jsonptr_text_remove_comments(jsonptr_text *text, jsonptr_error *error) {
     unwanted none;
     if (text == NULL) {
@@ -393,6 +405,18 @@ jsonptr_status jsonptr_text_copy(const jsonptr_text *text, size_t start, size_t 
     jsonptr_text copy = *text;
     jsonptr_status status = jsonptrcore_text_copy(&copy, start, end, OR(out, none.buffer), capacity, size,
                                                   OR(error, none.error));
+    return ended(status, out, capacity, size);
+}
+
+jsonptr_status jsonptr_quote(const char *string, size_t string_length, char *out, size_t capacity, size_t *length,
+                             jsonptr_error *error) {
+    unwanted none;
+    if (!is_slice(string, string_length) || !is_slice(out, capacity)) {
+        return bad_argument(error);
+    }
+    size_t *size = OR(length, none.length);
+    jsonptr_status status = jsonptrcore_quote(start_of(string), string_length, OR(out, none.buffer), capacity, size,
+                                              OR(error, none.error));
     return ended(status, out, capacity, size);
 }
 

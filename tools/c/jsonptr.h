@@ -187,7 +187,10 @@ typedef uint32_t jsonptr_status;
 #define JSONPTR_NOT_LOCATED  16u  /* the value is in the text, but its bytes are not found */
 #define JSONPTR_NO_VALUE     17u  /* no value of the text is at the offset */
 #define JSONPTR_NOT_IN_PLACE 18u  /* the edit is possible, but not in place */
+#define JSONPTR_NOT_TOML     19u  /* a text is not a TOML text */
+#define JSONPTR_NOT_TOML_VALUE 20u /* the value is null or an integer that TOML has not, or contains one */
 #define JSONPTR_NOT_RENAMED  21u  /* the member cannot be renamed so */
+#define JSONPTR_OTHER_FORMAT 22u  /* the call does not work on texts of this format */
 
 /* ---- Errors ------------------------------------------------------------ */
 
@@ -224,6 +227,10 @@ typedef uint32_t jsonptr_status;
 #define JSONPTR_KIND_NOTHING_THERE     20u  /* the pointer resolves to nothing */
 #define JSONPTR_KIND_NOT_A_MEMBER      21u  /* it resolves to the root, or to an element of an array */
 #define JSONPTR_KIND_KEY_TAKEN         22u  /* another member of the object has the key */
+/* JSONPTR_TOO_DEEP of jsonptr_text_open and of edits, on TOML */
+#define JSONPTR_KIND_TOML_TOO_DEEP     23u  /* the values of the text nest, or would nest, deeper than 80 */
+/* JSONPTR_NOT_TOML_VALUE */
+#define JSONPTR_KIND_NO_TOML_TEXT      24u  /* the whole document would have no TOML text: it would not be a table */
 
 /* A member of an operation, or an argument of the call: jsonptr_error.member. */
 #define JSONPTR_MEMBER_NONE      0u
@@ -243,6 +250,7 @@ typedef uint32_t jsonptr_status;
  *     NOT_UTF8      0                             member, offset
  *     NOT_JSON      0                             offset
  *                   OPEN_COMMENT                  kind, offset
+ *     NOT_TOML      0                             offset
  *     NOT_POINTER   NO_LEADING_SLASH              kind; the fault is at offset 0
  *                   BAD_ESCAPE                    kind, position, slash, offset, length
  *     NOT_FOUND     NOT_AN_INDEX, OUT_OF_BOUNDS,
@@ -259,7 +267,8 @@ typedef uint32_t jsonptr_status;
  *                   MOVE_INTO_SELF, TEST_FLOAT,
  *                   TEST_FAILED                   kind, operation
  *     TOO_DEEP      0, INVERSE_TOO_DEEP,
- *                   TEXT_TOO_DEEP                 kind
+ *                   TEXT_TOO_DEEP, TOML_TOO_DEEP  kind
+ *     NOT_TOML_VALUE 0, NO_TOML_TEXT              kind
  *     NOT_RENAMED   NOTHING_THERE, NOT_A_MEMBER,
  *                   KEY_TAKEN                     kind
  *     NOT_EXACT     0                             offset, length
@@ -675,6 +684,13 @@ jsonptr_status jsonptr_document_diff(const jsonptr_document *from, const jsonptr
  * numbers. A value that is put there keeps its own digits, escapes and order. A text
  * of one line stays one line.
  *
+ * TOML         A pointer is the same: a token is a key of a table, or an index of an
+ *              array. A value is JSON too, and is written as TOML writes it, in the form
+ *              of its siblings: a table with a header, dotted keys or braces. TOML has
+ *              no null, and its integers go from -2^63 to 2^63 - 1. A date-time cannot
+ *              be assigned. jsonptr_text_open, _assign, _delete, _rename and _copy
+ *              work on TOML. The other calls return JSONPTR_OTHER_FORMAT.
+ *
  * An error, also JSONPTR_NO_MEMORY, leaves the text. An edit is made once, so there
  * is no call to repeat. */
 typedef struct jsonptr_text {
@@ -687,6 +703,7 @@ typedef struct jsonptr_text {
 /* The format of a text. Any other number is JSONPTR_BAD_ARGUMENT. */
 #define JSONPTR_FORMAT_JSON  0u  /* JSON */
 #define JSONPTR_FORMAT_JSONC 1u  /* JSON with comments and trailing commas, as in settings.json */
+#define JSONPTR_FORMAT_TOML  2u  /* TOML, as in pyproject.toml */
 
 /* Flags of an edit. Any other bit is JSONPTR_BAD_ARGUMENT. */
 #define JSONPTR_REFORMAT 8u  /* an edit that cannot be made in place prints the document anew */
@@ -708,6 +725,8 @@ typedef struct jsonptr_change {
  *
  * Returns   JSONPTR_OK, JSONPTR_NOT_UTF8 with offset, JSONPTR_NOT_JSON with offset,
  *           and with kind if a block comment is not closed, JSONPTR_NO_MEMORY.
+ *           Of TOML JSONPTR_NOT_TOML with offset, instead of JSONPTR_NOT_JSON, and
+ *           JSONPTR_TOO_DEEP with kind if its values nest deeper than 80.
  *           An error leaves the handle.
  * error     may be NULL.
  * Cost      linear in the text, and in one that is freed. */
@@ -734,6 +753,8 @@ JSONPTR_API void jsonptr_text_free(jsonptr_text *text);
  *           JSONPTR_NOT_ASSIGNED with kind, position, slash, offset and length,
  *           JSONPTR_TOO_DEEP with kind if the text would nest deeper than 127,
  *           JSONPTR_NOT_IN_PLACE without JSONPTR_REFORMAT, JSONPTR_NO_MEMORY.
+ *           Of TOML also JSONPTR_NOT_TOML_VALUE, with kind if the document would not
+ *           be a table, and JSONPTR_TOO_DEEP with kind if it would nest deeper than 80.
  *           An error leaves the text and `*change`.
  * Cost      linear in the text and in the value: the text is read up to five times. */
 JSONPTR_API JSONPTR_NODISCARD
@@ -744,8 +765,8 @@ jsonptr_status jsonptr_text_assign(jsonptr_text *text,
                                    jsonptr_change *change, jsonptr_error *error);
 
 /* Deletes the value that a pointer resolves to, with its comma. If there is none, the
- * text is unchanged, and that is no error. Deleting "" leaves null. Of members with
- * the same key each is deleted.
+ * text is unchanged, and that is no error. Deleting "" leaves null, and of TOML an
+ * empty document. Of members with the same key each is deleted.
  *
  * flags     0 or JSONPTR_REFORMAT.
  * found     may be NULL: whether there was a value.
@@ -791,7 +812,8 @@ jsonptr_status jsonptr_text_rename(jsonptr_text *text,
  *           text of a value is not found in the patch, for which no text is known,
  *           JSONPTR_NO_DOCUMENT, JSONPTR_PATCH_FAILED as jsonptr_document_patch,
  *           JSONPTR_TOO_DEEP with kind if the text would nest deeper than 127,
- *           JSONPTR_NOT_IN_PLACE without JSONPTR_REFORMAT, JSONPTR_NO_MEMORY.
+ *           JSONPTR_NOT_IN_PLACE without JSONPTR_REFORMAT,
+ *           JSONPTR_OTHER_FORMAT of TOML, JSONPTR_NO_MEMORY.
  *           An error leaves the text and `*change`.
  * Cost      linear in the text for each operation. */
 JSONPTR_API JSONPTR_NODISCARD
@@ -800,11 +822,30 @@ jsonptr_status jsonptr_text_patch(jsonptr_text *text,
                                   uint32_t flags,
                                   jsonptr_change *change, jsonptr_error *error);
 
+/* Puts the document of another JSON text into a text, in the layout that it has. A
+ * value that is the same keeps its bytes, and a new one is laid out as its siblings
+ * are. A text that already reads as that document is unchanged. The format is
+ * JSONPTR_FORMAT_JSON.
+ *
+ * flags     0 or JSONPTR_REFORMAT: a document that cannot be laid out so takes the
+ *           other text as it is.
+ * change    may be NULL, and so may `error`.
+ * Returns   JSONPTR_OK, JSONPTR_NOT_UTF8 with offset and JSONPTR_NOT_JSON with offset
+ *           for the other text, JSONPTR_NO_DOCUMENT, JSONPTR_OTHER_FORMAT,
+ *           JSONPTR_NOT_IN_PLACE without JSONPTR_REFORMAT, JSONPTR_NO_MEMORY.
+ *           An error leaves the text and `*change`.
+ * Cost      linear in both texts, and in the logarithm of the longest array and object. */
+JSONPTR_API JSONPTR_NODISCARD
+jsonptr_status jsonptr_text_relayout(jsonptr_text *text,
+                                     const char *json, size_t json_length,
+                                     uint32_t flags,
+                                     jsonptr_change *change, jsonptr_error *error);
+
 /* Replaces comments and trailing commas by spaces. The format is then
  * JSONPTR_FORMAT_JSON, and each offset is as before.
  *
- * Returns   JSONPTR_OK, JSONPTR_NO_DOCUMENT, JSONPTR_NO_MEMORY. An error leaves the
- *           text.
+ * Returns   JSONPTR_OK, JSONPTR_NO_DOCUMENT, JSONPTR_OTHER_FORMAT of TOML,
+ *           JSONPTR_NO_MEMORY. An error leaves the text.
  * error     may be NULL.
  * Cost      linear in the text. */
 JSONPTR_API JSONPTR_NODISCARD
@@ -817,7 +858,8 @@ jsonptr_status jsonptr_text_remove_comments(jsonptr_text *text, jsonptr_error *e
  * start     may be NULL, and so may `end` and `error`.
  * Returns   JSONPTR_OK, JSONPTR_NO_DOCUMENT, those of jsonptr_pointer_count,
  *           JSONPTR_NOT_FOUND with kind, position, slash, offset and length,
- *           JSONPTR_NOT_LOCATED as jsonptr_locate_in_text, JSONPTR_NO_MEMORY.
+ *           JSONPTR_NOT_LOCATED as jsonptr_locate_in_text,
+ *           JSONPTR_OTHER_FORMAT of TOML, JSONPTR_NO_MEMORY.
  *           An error leaves `*start` and `*end`.
  * Cost      linear in the text. */
 JSONPTR_API JSONPTR_NODISCARD
@@ -831,7 +873,7 @@ jsonptr_status jsonptr_text_locate(const jsonptr_text *text,
  *
  * Returns   JSONPTR_OK, JSONPTR_NO_DOCUMENT, JSONPTR_NOT_LOCATED as
  *           jsonptr_locate_in_text of "", JSONPTR_NO_VALUE with offset,
- *           JSONPTR_NO_ROOM, JSONPTR_NO_MEMORY.
+ *           JSONPTR_OTHER_FORMAT of TOML, JSONPTR_NO_ROOM, JSONPTR_NO_MEMORY.
  * length    may be NULL, and so may `error`.
  * Cost      linear in the text. */
 JSONPTR_API JSONPTR_NODISCARD
@@ -851,6 +893,18 @@ jsonptr_status jsonptr_text_copy(const jsonptr_text *text, size_t start, size_t 
                                  jsonptr_error *error);
 
 /* ---- Without a document ------------------------------------------------ */
+
+/* Copies the JSON text of a string, with quotation marks and escapes, as a value of
+ * jsonptr_document_assign or jsonptr_text_assign: a"b is "a\"b".
+ *
+ * Returns   JSONPTR_OK, JSONPTR_NOT_UTF8 with offset, JSONPTR_NO_ROOM,
+ *           JSONPTR_NO_MEMORY.
+ * length    may be NULL, and so may `error`.
+ * Cost      linear in the string. */
+JSONPTR_API JSONPTR_NODISCARD
+jsonptr_status jsonptr_quote(const char *string, size_t string_length,
+                             char *out, size_t capacity, size_t *length,
+                             jsonptr_error *error);
 
 /* Copies the JSON text of the value that a pointer resolves to in a JSON text,
  * in one pass and without a document. The result is that of

@@ -63,9 +63,9 @@ from typing import (Any, AnyStr, Callable, Dict, Generic, Iterator, List, Mappin
                     SupportsIndex, Tuple, Type, Union)
 
 __all__ = ["Change", "Document", "Editor", "JsonPatchError", "JsonPointerError", "JsonptrError", "NotAssigned", "NotExact",
-           "NotFound", "NotInPlace", "NotJson", "NotPointer", "NotRenamed", "Patch", "Raw", "Span", "TooDeep", "apply_patch",
-           "edit", "escape", "locate", "lost_number", "make_patch", "pointer_at", "resolve", "resolve_in_text",
-           "resolve_pointer", "set_pointer", "tokens", "version"]
+           "NotFound", "NotInPlace", "NotJson", "NotPointer", "NotRenamed", "NotToml", "NotTomlValue", "OtherFormat", "Patch", "Raw",
+           "Span", "TooDeep", "apply_patch", "edit", "escape", "locate", "lost_number", "make_patch", "pointer_at", "resolve",
+           "resolve_in_text", "resolve_pointer", "set_pointer", "tokens", "version"]
 
 __version__ = "0.4.0-dev"
 
@@ -73,8 +73,8 @@ Text = Union[str, bytes, bytearray, memoryview]
 JSON = Union[None, bool, int, float, str, Sequence["JSON"], Mapping[str, "JSON"]]
 
 OK, NO_MEMORY, NO_ROOM, BAD_ARGUMENT, NO_DOCUMENT, NOT_UTF8, NOT_JSON, NOT_POINTER, NO_TOKEN, NOT_FOUND, OTHER_TYPE, \
-    NOT_ASSIGNED, NOT_PATCH, PATCH_FAILED, TOO_DEEP, NOT_EXACT, NOT_LOCATED, NO_VALUE, NOT_IN_PLACE = range(19)
-NOT_RENAMED = 21
+    NOT_ASSIGNED, NOT_PATCH, PATCH_FAILED, TOO_DEEP, NOT_EXACT, NOT_LOCATED, NO_VALUE, NOT_IN_PLACE, NOT_TOML, \
+    NOT_TOML_VALUE, NOT_RENAMED, OTHER_FORMAT = range(23)
 MEMBERS = [None, "op", "path", "from", "value", "pointer", "token", "text"]
 
 
@@ -141,7 +141,7 @@ _text_open, _text_copy, _text_free = _function("text_open"), _function("text_cop
 _text_assign, _text_delete = _function("text_assign"), _function("text_delete")
 _text_rename, _text_patch = _function("text_rename"), _function("text_patch")
 _text_locate, _text_pointer_at = _function("text_locate"), _function("text_pointer_at")
-_text_remove_comments = _function("text_remove_comments")
+_text_remove_comments, _text_relayout = _function("text_remove_comments"), _function("text_relayout")
 _count, _escape = _function("pointer_count"), _function("pointer_escape")
 _error_message, _version = _function("error_message"), _function("version", ctypes.c_char_p)
 _size, _at = ctypes.c_size_t, ctypes.byref
@@ -210,12 +210,25 @@ class NotRenamed(JsonptrError):
     """The pointer resolves to no member of an object, or another member has the key."""
 
 
+class NotToml(JsonptrError):
+    """A text is not TOML."""
+
+
+class NotTomlValue(JsonptrError):
+    """A value is None or an integer that TOML has not, or contains one, or a TOML document would not be a table."""
+
+
+class OtherFormat(JsonptrError):
+    """The call does not work on texts of this format."""
+
+
 class JsonPatchError(JsonptrError):
     """A document is not a patch, or an operation of it fails."""
 
 
 class TooDeep(JsonptrError):
-    """The document could nest deeper than 10,127 levels, or a text, or the patch that takes a patch back, deeper than 127."""
+    """The document could nest deeper than 10,127 levels, a text or the patch that takes a patch back deeper than 127, or the
+    values of a TOML text deeper than 80."""
 
 
 class NotExact(JsonptrError):
@@ -231,7 +244,8 @@ class NotExact(JsonptrError):
 _CLASSES: Dict[int, Type[JsonptrError]] = {
     NOT_JSON: NotJson, NOT_POINTER: NotPointer, NOT_FOUND: NotFound, NO_VALUE: NotFound, NOT_ASSIGNED: NotAssigned,
     NOT_PATCH: JsonPatchError, PATCH_FAILED: JsonPatchError, TOO_DEEP: TooDeep, NOT_EXACT: NotExact,
-    NOT_IN_PLACE: NotInPlace, NOT_RENAMED: NotRenamed}
+    NOT_IN_PLACE: NotInPlace, NOT_RENAMED: NotRenamed, NOT_TOML: NotToml, NOT_TOML_VALUE: NotTomlValue,
+    OTHER_FORMAT: OtherFormat}
 
 
 def _fail(status: int, error: _Error) -> NoReturn:
@@ -806,13 +820,19 @@ class Change(NamedTuple):
 
 
 # The formats of a text, and their numbers in jsonptr.h.
-_FORMATS = {"json": 0, "jsonc": 1}
+_FORMATS = {"json": 0, "jsonc": 1, "toml": 2}
+_SUFFIXES = {".jsonc": "jsonc", ".toml": "toml"}
 _NO_FLAG, _REFORMAT = ctypes.c_uint32(0), ctypes.c_uint32(8)
 _ALL = _size(2 ** 64 - 1)
 
 
+def _given(value: Union[JSON, Raw]) -> bytes:
+    """Returns the JSON text of a value that is put into a text."""
+    return _bytes(value.text) if isinstance(value, Raw) else _json(value, lossy=True)
+
+
 class Editor(_Locked, Generic[AnyStr]):
-    """A text that is edited in place: a JSON text, or with `format="jsonc"` one with comments and trailing commas.
+    """A text that is edited in place: JSON, with `format="jsonc"` JSON with comments and trailing commas, or with "toml" TOML.
 
         >>> editor = Editor('{\\n  "size": 3, // px\\n}\\n', "jsonc")
         >>> editor.assign("/size", 4)
@@ -830,6 +850,24 @@ class Editor(_Locked, Generic[AnyStr]):
     of the value that changes are others afterwards: comments, white space, the order of members and the digits of all numbers
     stay. An edit that is possible, but not in place, is the error `NotInPlace`; with `reformat` it prints the document anew,
     without comments. An error leaves the text. A byte order mark is read past, and stays.
+
+    In TOML a value is written as TOML writes it, in the form of its siblings:
+
+        >>> editor = Editor('[project] # ours\\nname = "app"\\n', "toml")
+        >>> editor["/project/version"] = "1.0"
+        >>> editor.assign("/tool/app/sizes", [3, 5.5]).start
+        46
+        >>> print(editor.text, end="")
+        [project] # ours
+        name = "app"
+        version = "1.0"
+        <BLANKLINE>
+        [tool.app]
+        sizes = [3, 5.5]
+
+    It has no None, integers from -2^63 to 2^63 - 1 alone, and dates and times that cannot be assigned: others are the error
+    `NotTomlValue`. `value`, `editor[pointer]` and `in` need Python 3.11. `get`, `locate`, `pointer_at`, `apply`,
+    `relayout` and `remove_comments` are the error `OtherFormat`.
 
     Threads may share an editor, as a `Document`. A copy, and one that was pickled, is made of the text.
     """
@@ -855,10 +893,10 @@ class Editor(_Locked, Generic[AnyStr]):
     @property
     def text(self) -> AnyStr:
         """The text."""
-        return self._as_given(self._data)
+        return self._of_its_type(self._data)
 
-    def _as_given(self, data: bytes) -> AnyStr:
-        """Returns a part of the text as it was given: a `str` or `bytes`."""
+    def _of_its_type(self, data: bytes) -> AnyStr:
+        """Returns a part of the text in the type of the whole: a `str` or `bytes`."""
         return data.decode() if self._is_str else data  # type: ignore[return-value]
 
     def _count(self, data: bytes, offset: int) -> int:
@@ -886,11 +924,13 @@ class Editor(_Locked, Generic[AnyStr]):
 
     def assign(self, pointer: Text, value: Union[JSON, Raw]) -> Change:
         """Assigns a Python value or a `Raw` at the pointer, and creates what is missing on the way."""
-        text = _bytes(value.text) if isinstance(value, Raw) else _json(value, lossy=True)
-        return self._edit(_text_assign, *_text(pointer), *_text(text))
+        return self._edit(_text_assign, *_text(pointer), *_text(_given(value)))
 
     def delete(self, pointer: Text) -> bool:
-        """Deletes the value that the pointer resolves to, and returns whether there was one. "" leaves null."""
+        """Deletes the value that the pointer resolves to, and returns whether there was one.
+
+        Deleting "" leaves null, and of TOML an empty document.
+        """
         found, change, error = ctypes.c_bool(), _Change(), _Error()
         with self._held():
             flags = _REFORMAT if self.reformat else _NO_FLAG
@@ -911,6 +951,19 @@ class Editor(_Locked, Generic[AnyStr]):
         A value of a patch that is a text keeps its digits, its escapes and the order of its members.
         """
         return self._edit(_text_patch, *_text((patch if isinstance(patch, Patch) else Patch(patch)).text))
+
+    def relayout(self, new: Union[JSON, Raw]) -> Change:
+        """Puts a whole document into the text, in the layout that it has: a Python value, or a `Raw` with its JSON text.
+
+            >>> editor = Editor('{ "sizes": [1.00, 2] }')
+            >>> editor.relayout({"sizes": [1.0, 2, 3]}).reformatted
+            False
+            >>> editor.text
+            '{ "sizes": [1.00, 2, 3] }'
+
+        A value that is the same keeps its bytes. Of the format "jsonc" or "toml" the error is `OtherFormat`.
+        """
+        return self._edit(_text_relayout, *_text(_given(new)))
 
     def remove_comments(self) -> None:
         """Replaces comments and trailing commas by spaces. The format is then "json"."""
@@ -940,16 +993,26 @@ class Editor(_Locked, Generic[AnyStr]):
         """Returns the value that the pointer resolves to as it is written, with the comments in it."""
         with self._held():
             span, data = self._located(pointer), self._data
-        return self._as_given(data[span.start:span.end])
+        return self._of_its_type(data[span.start:span.end])
 
     def value(self, pointer: Text = "") -> Any:
         """Returns the Python value that the pointer resolves to. An integer has all its digits, and a float is the nearest one."""
+        if self._format == "toml":
+            return _walk(self._toml(), tokens(pointer))
         text = _bytes(self.get(pointer))
         if self._format == "jsonc":
             bare = Editor(text, "jsonc")
             bare.remove_comments()
             text = bare.text
         return _value(text)
+
+    def _toml(self) -> Dict[str, Any]:
+        """Returns the document of a TOML text."""
+        try:
+            import tomllib
+        except ImportError:
+            raise OtherFormat("values of a TOML text are read from Python 3.11 on", status=OTHER_FORMAT) from None
+        return tomllib.loads(str(self).lstrip("\ufeff"))
 
     def pointer_at(self, offset: SupportsIndex) -> str:
         """Returns the pointer of the innermost value that contains the character or byte at the offset."""
@@ -973,11 +1036,13 @@ class Editor(_Locked, Generic[AnyStr]):
 
     def __delitem__(self, pointer: Text) -> None:
         if not self.delete(pointer):
+            if self._format == "toml":
+                raise NotFound("delete failed: json pointer does not resolve", status=NOT_FOUND)
             self.locate(pointer)  # which raises NotFound
 
     def __contains__(self, pointer: Text) -> bool:
         try:
-            self.locate(pointer)
+            self.value(pointer) if self._format == "toml" else self.locate(pointer)
         except NotFound:
             return False
         return True
@@ -1052,8 +1117,8 @@ def edit(path: Union[str, "os.PathLike[str]"], format: Optional[str] = None, *, 
         with jsonptr.edit("settings.jsonc") as settings:
             settings["/editor/fontSize"] = 14
 
-    Without `format`, it is "jsonc" for a name that ends in `.jsonc`, and else "json". The new text is written beside the file and
-    renamed, so a crash leaves the old or the new one. The file keeps its mode, and its owner if that may be set. A symbolic link
+    Without `format`, it is "jsonc" or "toml" for a name that ends in `.jsonc` or `.toml`, and else "json". The new text is written
+    beside the file and renamed, so a crash leaves the old or the new one. The file keeps its mode, and its owner if that may be set. A symbolic link
     is followed and stays; a hard link becomes a file of its own. If another program changed the file meanwhile, it stays as that
     program left it, and the error is `FileExistsError`.
     """
@@ -1061,7 +1126,7 @@ def edit(path: Union[str, "os.PathLike[str]"], format: Optional[str] = None, *, 
     with open(real, "rb") as file:
         before = os.fstat(file.fileno())
         data = file.read()
-    found = format or ("jsonc" if real.endswith(".jsonc") else "json")
+    found = _SUFFIXES.get(os.path.splitext(real)[1], "json") if format is None else format
     try:
         text = data.decode()
     except UnicodeDecodeError as error:
@@ -1118,6 +1183,9 @@ def _child(value: Any, token: str) -> Tuple[bool, Any]:
     if isinstance(value, Sequence) and not isinstance(value, (str, bytes, bytearray, memoryview)):
         at = _index(token, len(value))
         return (False, None) if at is None else (True, value[at])
+    if hasattr(value, "__getitem__") and not isinstance(value, (str, bytes, bytearray, memoryview)):
+        with contextlib.suppress(LookupError, TypeError):
+            return True, value[token]
     return False, None
 
 
@@ -1140,7 +1208,8 @@ def resolve_pointer(doc: Any, pointer: str, default: Any = _NOTHING) -> Any:
         >>> resolve_pointer(doc, "/sizes/1") is doc["sizes"][1], resolve_pointer(doc, "/none", 7)
         (True, 7)
 
-    Without a default, the error is `NotFound`. A token is a key of a mapping, or the index of an element (RFC 6901, section 4).
+    Without a default, the error is `NotFound`. A token is the index of an element (RFC 6901, section 4), or else a key: of a
+    mapping, or of another object with `__getitem__`.
     """
     if isinstance(doc, (Document, Editor)):
         try:
@@ -1179,6 +1248,8 @@ def set_pointer(doc: Any, pointer: str, value: Any, inplace: bool = True) -> Any
         parent.append(value)
     elif isinstance(parent, list) and _index(token, len(parent)) is not None:
         parent[int(token)] = value
+    elif hasattr(parent, "__setitem__") and not isinstance(parent, list):
+        parent[token] = value
     else:
         raise NotAssigned(f"assign failed: json pointer token {token!r} is no place in the value", status=NOT_ASSIGNED,
                           position=len(names) - 1)

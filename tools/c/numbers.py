@@ -21,8 +21,12 @@ def defined():
 
 def of_calls():
     """Returns the numbers of the proved calls."""
-    sources = text_of("crates/jsonptr_c_calls/src/error_numbers.rt") + text_of("crates/jsonptr_c_calls/src/node.rt")
-    return {name: int(number) for name, number in re.findall(r"^pub const (\w+): u32 = (\d+);", sources, re.M)}
+    constants = {}
+    for module, prefix in (("error_numbers", ""), ("node", ""), ("text_format", "FORMAT_")):
+        source = text_of(f"crates/jsonptr_c_calls/src/{module}.rt")
+        rows = re.findall(r"^pub const (\w+): u32 = (\d+);", source, re.M)
+        constants.update({prefix + name: int(number) for name, number in rows})
+    return constants
 
 
 def of_module():
@@ -33,7 +37,7 @@ def of_module():
 
 def main():
     header = defined()
-    outside = {"COMPACT", "PRETTY", "EXACT_NUMBERS", "REFORMAT", "FORMAT_JSON", "FORMAT_JSONC", "MEMBER_NONE", "KIND_NONE", "VERSION_MAJOR", "VERSION_MINOR", "VERSION_PATCH"}
+    outside = {"COMPACT", "PRETTY", "EXACT_NUMBERS", "REFORMAT", "FORMAT_JSON", "MEMBER_NONE", "KIND_NONE", "VERSION_MAJOR", "VERSION_MINOR", "VERSION_PATCH"}
     errors = []
     if {name: number for name, number in header.items() if name not in outside} != of_calls():
         errors.append(f"jsonptr.h and the calls differ: {sorted(set(header.items()) ^ set(of_calls().items()))}")

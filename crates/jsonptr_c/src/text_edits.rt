@@ -1,9 +1,14 @@
 //! Texts that are edited many times.
 ghost use Rattle.std.specs.Prelude.{◌≡◌, ◌≢◌, ◌≤◌, [], false, true, IsUtf8, string_bytes, take, length as list_length};
+ghost use Rattle.serde_json.specs.Data.{string as json_string};
+ghost use Rattle.jsonptr_text_resolve.specs.declared.format.Format.TheVariants.{Compact};
 ghost use Rattle.jsonptr_c_calls.specs.ErrorNumbers.{no_error};
+ghost use Rattle.jsonptr_c_calls.specs.Failures.{IsNotQuoted};
+ghost use Rattle.jsonptr_c_calls.specs.Values.{IsJsonText};
 ghost use Rattle.jsonptr_c_calls.specs.OpenTexts.{Deletes, IsNotOpened, ReadsAs, Renames};
 ghost use Rattle.jsonptr_c_calls.specs.Outcomes.{IsLengthOf, Reports};
-ghost use Rattle.jsonptr_c_calls.specs.TextCalls.{AssignsText, FindsNothing, IsNotAssignedIn, IsNotCopied, IsNotDeletedIn, IsNotPatchedIn, IsNotRenamedIn, Makes, PatchesText, format_with, part};
+ghost use Rattle.jsonptr_c_calls.specs.Relayouts.{IsNotRelaidIn, Relays};
+ghost use Rattle.jsonptr_c_calls.specs.TextCalls.{AssignsText, FindsNothing, IsNotAssignedIn, IsNotCopied, IsNotDeletedIn, IsNotPatchedIn, IsNotRenamedIn, Makes, PatchesText, text_format_of, part};
 ghost use Rattle.jsonptr_c_calls.specs.TextHandle.{ChangesText, FailsOnText, HoldsTextWith, IsVacant, KeepsText};
 ghost use Rattle.jsonptr_c_calls.specs.TextReads.{IsBareText, IsNotLocatedIn, IsNotPointedAtIn, IsNotStripped, LocatesIn, PointsAtIn};
 ghost use Rattle.jsonptr_c_calls.specs.declared.call_error.CallError.{CallError};
@@ -11,41 +16,30 @@ ghost use Rattle.jsonptr_c_calls.specs.declared.call_error.CallError.{CallError}
 use jsonptr_c_calls::change::Change;
 use jsonptr_c_calls::error_numbers::ErrorRecord;
 use jsonptr_c_calls::outcome::{fail, fail_with_length, succeed};
-use jsonptr_c_calls::text_calls;
-use jsonptr_c_calls::text_format::TextFormat;
+use jsonptr_c_calls::text_format::text_format_of;
 use jsonptr_c_calls::text_handle::TextHandle;
+use jsonptr_c_calls::{text_calls, values};
 use std::alloc::Global;
 
-/// Returns the format of a text, which may have comments or not.
-fn format_with(has_comments: bool) -> TextFormat
-    ensures { result ≡ format_with has_comments }
-{
-    if has_comments {
-        TextFormat::Commented
-    } else {
-        TextFormat::Json
-    }
-}
-
-/// Opens a text in the handle.
+/// Opens a text in the handle, in the format with this number.
 #[unsafe(no_mangle)]
 pub extern "C" fn jsonptrcore_text_open(
     alloc: Global,
     text: &mut TextHandle,
-    has_comments: bool,
+    format: u32,
     bytes: &[u8],
     error: &mut ErrorRecord,
 ) -> u32
     ensures no_error { result ≡ 0 → error.new ≡ no_error }
     ensures opened { result ≡ 0 → HoldsTextWith text.new
-        (λ t. (string_bytes t.text ≡ bytes.now) × (t.format ≡ format_with has_comments)) }
-    ensures reads { result ≡ 0 → ReadsAs (format_with has_comments) bytes.now }
+        (λ t. (string_bytes t.text ≡ bytes.now) × (t.format ≡ text_format_of format)) }
+    ensures reads { result ≡ 0 → ReadsAs (text_format_of format) bytes.now }
     ensures utf8 { result ≡ 0 → IsUtf8 bytes.now }
     ensures refused { result ≢ 0 → (e : CallError) × Reports e [] result error.new
-        × IsNotOpened (format_with has_comments) bytes.now e }
+        × IsNotOpened (text_format_of format) bytes.now e }
     ensures unchanged { result ≢ 0 → text.new ≡ text.old }
 {
-    match text_calls::open(alloc, text, format_with(has_comments), bytes) {
+    match text_calls::open(alloc, text, text_format_of(format), bytes) {
         Ok(()) => succeed(error),
         Err(call_error) => fail(&call_error, b"", error),
     }
@@ -188,6 +182,34 @@ pub extern "C" fn jsonptrcore_text_patch(
     }
 }
 
+/// Makes the document of the JSON text that the bytes are in the text, in the layout that it has.
+#[unsafe(no_mangle)]
+pub extern "C" fn jsonptrcore_text_relayout(
+    alloc: Global,
+    text: &mut TextHandle,
+    new: &[u8],
+    may_reformat: bool,
+    change: &mut Change,
+    error: &mut ErrorRecord,
+) -> u32
+    ensures no_error { result ≡ 0 → error.new ≡ no_error }
+    ensures relaid { result ≡ 0 → Relays new.now text.old change.new text.new }
+    ensures allowed { result ≡ 0 → may_reformat ≡ false → change.new.is_reformatted ≡ false }
+    ensures utf8 { result ≡ 0 → IsUtf8 new.now }
+    ensures refused { result ≢ 0 → (e : CallError) × Reports e [] result error.new
+        × IsNotRelaidIn may_reformat new.now text.old e }
+    ensures change_unchanged { result ≢ 0 → change.new ≡ change.old }
+    ensures unchanged { result ≢ 0 → KeepsText text.old text.new }
+{
+    match text_calls::relayout(alloc, text, new, may_reformat) {
+        Ok(made) => {
+            *change = made;
+            succeed(error)
+        }
+        Err(call_error) => fail(&call_error, b"", error),
+    }
+}
+
 /// Copies the bytes of the text from one offset up to another one to the buffer.
 #[unsafe(no_mangle)]
 pub extern "C" fn jsonptrcore_text_copy(
@@ -287,6 +309,34 @@ pub extern "C" fn jsonptrcore_text_pointer_at(
     ensures unchanged { KeepsText text.old text.new }
 {
     match text_calls::pointer_at(alloc, text, offset, out) {
+        Ok(copied) => {
+            *length = copied;
+            succeed(error)
+        }
+        Err(call_error) => fail_with_length(&call_error, b"", length, error),
+    }
+}
+
+/// Copies the JSON text of the string to the buffer.
+#[unsafe(no_mangle)]
+pub extern "C" fn jsonptrcore_quote(
+    alloc: Global,
+    string: &[u8],
+    out: &mut [u8],
+    length: &mut usize,
+    error: &mut ErrorRecord,
+) -> u32
+    ensures no_error { result ≡ 0 → error.new ≡ no_error }
+    ensures quoted { result ≡ 0
+        → IsJsonText Compact (json_string string.now) (take length.new out.new) }
+    ensures fits { result ≡ 0 → length.new ≤ list_length out.new }
+    ensures utf8 { result ≡ 0 → IsUtf8 string.now }
+    ensures refused { result ≢ 0 → (e : CallError) × Reports e [] result error.new
+        × IsNotQuoted string.now (list_length out.old) e }
+    ensures output_unchanged { result ≢ 0 → out.new ≡ out.old }
+    ensures length { result ≢ 0 → IsLengthOf error.new length.old length.new }
+{
+    match values::quote(alloc, string, out) {
         Ok(copied) => {
             *length = copied;
             succeed(error)

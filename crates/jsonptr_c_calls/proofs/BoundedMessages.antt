@@ -110,7 +110,10 @@ fixed_short status =
     (either 200 (status == number.OTHER_TYPE) _ _ (lit≤ tt)
     (either 200 (status == number.NOT_LOCATED) _ _ (lit≤ tt)
     (either 200 (status == number.TOO_DEEP) _ _ (lit≤ tt)
-    (either 200 (status == number.NOT_IN_PLACE) _ _ (lit≤ tt) (lit≤ tt))))))))))))
+    (either 200 (status == number.NOT_IN_PLACE) _ _ (lit≤ tt)
+    (either 200 (status == number.NOT_TOML) _ _ (lit≤ tt)
+    (either 200 (status == number.NOT_TOML_VALUE) _ _ (lit≤ tt)
+    (either 200 (status == number.OTHER_FORMAT) _ _ (lit≤ tt) (lit≤ tt)))))))))))))))
 
 -- a text before another one
 before : (room : ℕ) (x y : List ℕ) → length x + length y ≤ room → length (x ++ y) ≤ room
@@ -131,4 +134,6 @@ message_short r fits =
     (either 200 (r.status == number.NO_VALUE) _ _ (before 200 (codes "no value is at offset ") (decimal r.offset) (omega (arith, at, offset)))
     (either 200 ((r.status == number.TOO_DEEP) && (r.kind == number.KIND_INVERSE_TOO_DEEP)) _ _ (lit≤ tt)
     (either 200 ((r.status == number.TOO_DEEP) && (r.kind == number.KIND_TEXT_TOO_DEEP)) _ _ (lit≤ tt)
-    (either 200 ((r.status == number.NOT_JSON) && (r.kind == number.KIND_OPEN_COMMENT)) _ _ (lit≤ tt) (fixed_short r.status))))))))
+    (either 200 ((r.status == number.TOO_DEEP) && (r.kind == number.KIND_TOML_TOO_DEEP)) _ _ (lit≤ tt)
+    (either 200 ((r.status == number.NOT_TOML_VALUE) && (r.kind == number.KIND_NO_TOML_TEXT)) _ _ (lit≤ tt)
+    (either 200 ((r.status == number.NOT_JSON) && (r.kind == number.KIND_OPEN_COMMENT)) _ _ (lit≤ tt) (fixed_short r.status))))))))))

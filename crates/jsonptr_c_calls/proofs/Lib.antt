@@ -12,3 +12,4 @@ mod MessageLemmas
 mod BoundedMessages
 mod CopyLemmas
 mod OpenTextLemmas
+mod TomlValueLemmas

@@ -12,7 +12,7 @@ use Rattle.jsonptr_c_calls.specs.Messages.{error_message, message_of, patch_mess
 use Rattle.jsonptr_c_calls.specs.ErrorNumbers.{fault_number, patch_row, record_of, with_status}
 use Rattle.jsonptr_c_calls.specs.declared.error_numbers.TheConstants as number
 use Rattle.jsonptr_c_calls.specs.declared.call_error.CallError.{CallError}
-use Rattle.jsonptr_c_calls.specs.declared.call_error.CallError.TheVariants.{Memory, NoRoom, NoDocument, NotUtf8, NotJson, NotExact, NotPointer, NoToken, Resolve, NotLocated, NoValue, OtherType, Assign, NotPatch, PatchFailed, TooDeep, InverseTooDeep, TextTooDeep, NotRenamed, OpenComment, NotInPlace}
+use Rattle.jsonptr_c_calls.specs.declared.call_error.CallError.TheVariants.{Memory, NoRoom, NoDocument, NotUtf8, NotJson, NotExact, NotPointer, NoToken, Resolve, NotLocated, NoValue, OtherType, Assign, NotPatch, PatchFailed, TooDeep, InverseTooDeep, TextTooDeep, NotRenamed, OpenComment, NotInPlace, NotToml, TomlTooDeep, NotTomlValue, NoTomlText, OtherFormat}
 
 -- that of an operation that fails, whatever pointer is at fault
 failed_one : (e : PatchError) (m : ℕ) → message_of (with_status number.PATCH_FAILED (patch_row e m)) ≡ patch_message e
@@ -73,3 +73,8 @@ message_one (NotRenamed rename.NotAMember) bytes = refl
 message_one (NotRenamed rename.KeyTaken) bytes = refl
 message_one (OpenComment offset) bytes = refl
 message_one NotInPlace bytes = refl
+message_one (NotToml offset) bytes = refl
+message_one TomlTooDeep bytes = refl
+message_one NotTomlValue bytes = refl
+message_one NoTomlText bytes = refl
+message_one OtherFormat bytes = refl

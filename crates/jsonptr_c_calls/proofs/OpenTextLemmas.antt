@@ -1,12 +1,19 @@
 -- What calls on an open text return.
-use Rattle.std.proofs.Common.{◌≡◌, ◌⊎◌, inl, inr, ℕ, ◌+◌, ◌-◌, ◌≤◌, min, List, ◌++◌, length, take, drop, ap, refl, sym, ◌∙◌, arith, Result, Ok, Err, IfOk, IfErr, IfSome, OnOk, MatchOption, MatchResult, Option, Some, None}
-use Rattle.std.specs.Prelude.{⊤}
+use Rattle.std.proofs.Common.{◌≡◌, ◌⊎◌, inl, inr, ℕ, ◌+◌, ◌-◌, ◌≤◌, min, List, ◌++◌, length, take, drop, ap, sym, ◌∙◌, arith, Result, Ok, Err, IfOk, IfSome, OnOk, MatchOption, MatchResult, Option, Some, None}
+use Rattle.std.specs.Prelude.{⊤, Bool, true, string_bytes}
 use Rattle.std.proofs.lemmas.List.{drop-take, drop_min, length-take-le, take_min}
 use Rattle.jsonptr.specs.Text.{Text}
 use Rattle.jsonptr_comments.specs.Comments.{IsWithoutComments}
+use Rattle.jsonptr_text_edit.specs.Edited.{IfInPlace}
+use Rattle.jsonptr_text_edit.specs.declared.edited.Edited.{Edited}
+use Rattle.jsonptr_text_edit.specs.declared.edited.Edited.TheVariants.{InPlace, Reprinted}
+use Rattle.jsonptr_text_relayout.specs.Relaying.{KeepsLayout, text_of_relaid}
+use Rattle.jsonptr_text_relayout.specs.declared.relaid.Relaid.{Relaid}
+use Rattle.jsonptr_text_relayout.specs.declared.relaid.Relaid.TheVariants.{Kept, Rewritten}
 use Rattle.jsonptr_c_calls.specs.Failures.{IsOutOfMemory}
 use Rattle.jsonptr_c_calls.specs.Marks.{IsMark}
 use Rattle.jsonptr_c_calls.specs.OpenTexts.{FailsToRead, IsNotJson}
+use Rattle.jsonptr_c_calls.specs.Relayouts.{is_kept}
 use Rattle.jsonptr_c_calls.specs.declared.call_error.CallError.{CallError}
 use Rattle.jsonptr_c_calls.specs.declared.text_format.TextFormat.TheVariants.{Commented}
 
@@ -47,3 +54,17 @@ none_weaker None A B f h = f h
 pub on_ok : {X E : Type 0} (r : Result X E) (P Q : Type 0) → (P → Q) → OnOk r P → OnOk r Q
 on_ok (Ok x) P Q f h = f h
 on_ok (Err e) P Q f h = tt
+
+-- what an edit in place implies
+pub in_place_weaker : (e : Edited) (P Q : Text → Type 0) → ((t : Text) → P t → Q t) → IfInPlace P e → IfInPlace Q e
+in_place_weaker (InPlace s) P Q f h = f (string_bytes s) h
+in_place_weaker (Reprinted s) P Q f h = tt
+
+pub no_value : {X : Type 0} (o : Option X) (A : Type 0) → o ≡ None → A → MatchOption o A (λ _. ⊤)
+no_value None A e h = h
+no_value (Some x) A e h = tt
+
+-- a text that keeps its layout
+pub kept_text : (relaid : Relaid) (old : Text) (b : Bool) → b ≡ is_kept relaid → KeepsLayout old relaid → (text_of_relaid relaid ≡ old) × (b ≡ true)
+kept_text (Kept s) old b is h = (h, is)
+kept_text (Rewritten s) old b is h = absurd h

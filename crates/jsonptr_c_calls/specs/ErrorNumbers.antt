@@ -23,7 +23,7 @@ use Rattle.jsonptr_c_calls.specs.declared.error_numbers.TheConstants as number
 use Rattle.jsonptr_c_calls.specs.declared.call_error.Argument.{Argument}
 use Rattle.jsonptr_c_calls.specs.declared.call_error.Argument.TheVariants as argument
 use Rattle.jsonptr_c_calls.specs.declared.call_error.CallError.{CallError}
-use Rattle.jsonptr_c_calls.specs.declared.call_error.CallError.TheVariants.{Memory, NoRoom, NoDocument, NotUtf8, NotJson, NotExact, NotPointer, NoToken, Resolve, NotLocated, NoValue, OtherType, Assign, NotPatch, PatchFailed, TooDeep, InverseTooDeep, TextTooDeep, NotRenamed, OpenComment, NotInPlace}
+use Rattle.jsonptr_c_calls.specs.declared.call_error.CallError.TheVariants.{Memory, NoRoom, NoDocument, NotUtf8, NotJson, NotExact, NotPointer, NoToken, Resolve, NotLocated, NoValue, OtherType, Assign, NotPatch, PatchFailed, TooDeep, InverseTooDeep, TextTooDeep, NotRenamed, OpenComment, NotInPlace, NotToml, TomlTooDeep, NotTomlValue, NoTomlText, OtherFormat}
 use Rattle.jsonptr_c_calls.specs.declared.error_numbers.ErrorRecord.{ErrorRecord}
 
 -- `row status kind member operation position slash offset length`: the record with these numbers
@@ -171,6 +171,11 @@ status_number TextTooDeep = number.TOO_DEEP
 status_number (NotRenamed f) = number.NOT_RENAMED
 status_number (OpenComment offset) = number.NOT_JSON
 status_number NotInPlace = number.NOT_IN_PLACE
+status_number (NotToml offset) = number.NOT_TOML
+status_number TomlTooDeep = number.TOO_DEEP
+status_number NotTomlValue = number.NOT_TOML_VALUE
+status_number NoTomlText = number.NOT_TOML_VALUE
+status_number OtherFormat = number.OTHER_FORMAT
 
 -- `fields_of e bytes`: the record of the error `e` of a call with the pointer `bytes`, without its status
 abbrev pub fields_of : CallError → List ℕ → ErrorRecord
@@ -195,6 +200,11 @@ fields_of TextTooDeep bytes = of_kind number.KIND_TEXT_TOO_DEEP
 fields_of (NotRenamed f) bytes = of_kind (rename_kind f)
 fields_of (OpenComment offset) bytes = row 0 number.KIND_OPEN_COMMENT 0 0 0 0 offset 0
 fields_of NotInPlace bytes = no_error
+fields_of (NotToml offset) bytes = row 0 0 0 0 0 0 offset 0
+fields_of TomlTooDeep bytes = of_kind number.KIND_TOML_TOO_DEEP
+fields_of NotTomlValue bytes = no_error
+fields_of NoTomlText bytes = of_kind number.KIND_NO_TOML_TEXT
+fields_of OtherFormat bytes = no_error
 
 -- `with_status s r`: the record `r` with the status `s`
 abbrev pub with_status : ℕ → ErrorRecord → ErrorRecord

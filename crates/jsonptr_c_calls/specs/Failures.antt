@@ -18,6 +18,7 @@ use Rattle.jsonptr_c_calls.specs.Pointers.{ParsesTo}
 use Rattle.jsonptr_c_calls.specs.ErrorNumbers.{status_number}
 use Rattle.jsonptr_c_calls.specs.Values.{FindsAtPointer, IsJsonText}
 use Rattle.jsonptr_text_resolve.specs.declared.format.Format.{Format}
+use Rattle.jsonptr_text_resolve.specs.declared.format.Format.TheVariants.{Compact}
 use Rattle.jsonptr_c_calls.specs.declared.call_error.Argument.{Argument}
 use Rattle.jsonptr_c_calls.specs.declared.call_error.Argument.TheVariants as argument
 use Rattle.jsonptr_c_calls.specs.declared.call_error.CallError.{CallError}
@@ -127,6 +128,14 @@ LacksString v room e =
 abbrev pub IsNotRead : Data → List ℕ → ℕ → CallError → Type 0
 IsNotRead d bytes room e =
     Unfound d bytes e ⊎ ((v : Data) × IsUtf8 bytes × FindsAtPointer d bytes v × LacksString v room e)
+
+-- `IsNotQuoted s room e`: `s` is not UTF-8, or an allocation failed, or the JSON text of the string `s` is longer than `room`
+-- bytes, and `e` reports that
+abbrev pub IsNotQuoted : List ℕ → ℕ → CallError → Type 0
+IsNotQuoted s room e =
+    IsNotUtf8 argument.Text s e
+    ⊎ (IsOutOfMemory e
+    ⊎ ((out : List ℕ) × IsUtf8 s × IsJsonText Compact (string s) out × LacksRoom (length out) room e))
 
 -- `IsNotWritten out room e`: the text `out` is longer than `room` bytes, and `e` reports its length, or an allocation
 -- failed

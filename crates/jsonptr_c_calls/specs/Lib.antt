@@ -17,8 +17,10 @@ pub mod Messages
 pub mod Outcomes
 pub mod Changing
 pub mod Marks
+pub mod TomlValues
 pub mod OpenTexts
 pub mod TextSlot
 pub mod TextHandle
+pub mod Relayouts
 pub mod TextReads
 pub mod TextCalls

@@ -1,5 +1,5 @@
 -- A byte order mark at the start of a text.
-use Rattle.std.specs.Prelude.{◌≡◌, ◌⊎◌, ◌++◌, [], ◌∷◌, ℕ, List}
+use Rattle.std.specs.Prelude.{◌≡◌, ◌⊎◌, [], ◌∷◌, ℕ, List}
 
 -- `byte_order_mark`: that of UTF-8
 abbrev pub byte_order_mark : List ℕ

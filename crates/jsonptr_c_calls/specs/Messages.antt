@@ -13,7 +13,7 @@ use Rattle.jsonptr_text_step.specs.declared.rename.RenameError.{RenameError}
 use Rattle.jsonptr_text_step.specs.declared.rename.RenameError.TheVariants as rename
 use Rattle.jsonptr_c_calls.specs.declared.error_numbers.TheConstants as number
 use Rattle.jsonptr_c_calls.specs.declared.call_error.CallError.{CallError}
-use Rattle.jsonptr_c_calls.specs.declared.call_error.CallError.TheVariants.{Memory, NoRoom, NoDocument, NotUtf8, NotJson, NotExact, NotPointer, NoToken, Resolve, NotLocated, NoValue, OtherType, Assign, NotPatch, PatchFailed, TooDeep, InverseTooDeep, TextTooDeep, NotRenamed, OpenComment, NotInPlace}
+use Rattle.jsonptr_c_calls.specs.declared.call_error.CallError.TheVariants.{Memory, NoRoom, NoDocument, NotUtf8, NotJson, NotExact, NotPointer, NoToken, Resolve, NotLocated, NoValue, OtherType, Assign, NotPatch, PatchFailed, TooDeep, InverseTooDeep, TextTooDeep, NotRenamed, OpenComment, NotInPlace, NotToml, TomlTooDeep, NotTomlValue, NoTomlText, OtherFormat}
 use Rattle.jsonptr_c_calls.specs.declared.error_numbers.ErrorRecord.{ErrorRecord}
 
 -- `patch_message e`: the message of an operation that fails
@@ -77,6 +77,11 @@ error_message TextTooDeep = codes "the text would nest deeper than 127"
 error_message (NotRenamed f) = rename_message f
 error_message (OpenComment offset) = codes "comment is not closed"
 error_message NotInPlace = codes "the edit is possible, but not in place"
+error_message (NotToml offset) = codes "text is not TOML"
+error_message TomlTooDeep = codes "values of the TOML document nest, or would nest, deeper than 80"
+error_message NotTomlValue = codes "the value is null or an integer that TOML has not, or contains one"
+error_message NoTomlText = codes "the document would have no TOML text"
+error_message OtherFormat = codes "the call does not work on texts of this format"
 
 -- ---- The same by the numbers of a record
 
@@ -95,6 +100,9 @@ fixed_message status =
     else if status == number.NOT_LOCATED then codes "value cannot be located in the text"
     else if status == number.TOO_DEEP then codes "the document could nest deeper than 10,127"
     else if status == number.NOT_IN_PLACE then codes "the edit is possible, but not in place"
+    else if status == number.NOT_TOML then codes "text is not TOML"
+    else if status == number.NOT_TOML_VALUE then codes "the value is null or an integer that TOML has not, or contains one"
+    else if status == number.OTHER_FORMAT then codes "the call does not work on texts of this format"
     else codes "unknown status"
 
 -- `fault_message kind slash`: what is at fault with a pointer or with an operation, by the kind and the slash
@@ -169,6 +177,10 @@ message_of r =
     then codes "the inverse of the patch would nest deeper than 127"
     else if (r.status == number.TOO_DEEP) && (r.kind == number.KIND_TEXT_TOO_DEEP)
     then codes "the text would nest deeper than 127"
+    else if (r.status == number.TOO_DEEP) && (r.kind == number.KIND_TOML_TOO_DEEP)
+    then codes "values of the TOML document nest, or would nest, deeper than 80"
+    else if (r.status == number.NOT_TOML_VALUE) && (r.kind == number.KIND_NO_TOML_TEXT)
+    then codes "the document would have no TOML text"
     else if (r.status == number.NOT_JSON) && (r.kind == number.KIND_OPEN_COMMENT) then codes "comment is not closed"
     else fixed_message r.status
 

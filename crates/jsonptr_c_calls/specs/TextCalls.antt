@@ -1,5 +1,5 @@
 -- Calls on a text in a handle.
-use Rattle.std.specs.Prelude.{◌≡◌, ◌⊎◌, ℕ, List, Bool, true, false, IsUtf8, drop, length, string_bytes, take}
+use Rattle.std.specs.Prelude.{◌⊎◌, ◌==◌, ℕ, List, Bool, IsUtf8, drop, if◌then◌else◌, length, string_bytes, take}
 use Rattle.jsonptr.specs.Text.{Text}
 use Rattle.jsonptr_text_edit.specs.declared.edit.Edit.{Edit}
 use Rattle.jsonptr_text_value.specs.declared.patch_text.PatchText.{PatchText}
@@ -10,15 +10,14 @@ use Rattle.jsonptr_c_calls.specs.TextHandle.{ChangesText, FailsOnText}
 use Rattle.jsonptr_c_calls.specs.declared.call_error.Argument.TheVariants as argument
 use Rattle.jsonptr_c_calls.specs.declared.call_error.CallError.{CallError}
 use Rattle.jsonptr_c_calls.specs.declared.change.Change.{Change}
-use Rattle.jsonptr_c_calls.specs.declared.open_text.OpenText.{OpenText}
+use Rattle.jsonptr_c_calls.specs.declared.text_format.TheConstants as number
 use Rattle.jsonptr_c_calls.specs.declared.text_format.TextFormat.{TextFormat}
-use Rattle.jsonptr_c_calls.specs.declared.text_format.TextFormat.TheVariants.{Json, Commented}
+use Rattle.jsonptr_c_calls.specs.declared.text_format.TextFormat.TheVariants.{Json, Commented, Toml}
 use Rattle.jsonptr_c_calls.specs.declared.text_handle.TextHandle.{TextHandle}
 
--- `format_with has_comments`: the format of a text that may have comments, or not
-abbrev pub format_with : Bool → TextFormat
-format_with true = Commented
-format_with false = Json
+-- `text_format_of n`: the format with this number, which is 0 of JSON
+abbrev pub text_format_of : ℕ → TextFormat
+text_format_of n = if n == number.JSONC then Commented else if n == number.TOML then Toml else Json
 
 -- `Makes Asks d change n`: an edit that is asked for turns the text in the handle `d` into that in `n`, and `change` says which bytes
 -- it replaces

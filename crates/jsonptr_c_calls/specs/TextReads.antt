@@ -7,26 +7,29 @@ use Rattle.jsonptr_c_calls.specs.Failures.{IsOutOfMemory}
 use Rattle.jsonptr_c_calls.specs.Locations.{IsNotLocated, IsNotPointedAt, LocatesInText, PointsAt}
 use Rattle.jsonptr_c_calls.specs.Marks.{IsMark}
 use Rattle.jsonptr_c_calls.specs.declared.call_error.CallError.{CallError}
-use Rattle.jsonptr_c_calls.specs.declared.call_error.CallError.TheVariants.{NoValue, OpenComment}
+use Rattle.jsonptr_c_calls.specs.declared.call_error.CallError.TheVariants.{NoValue, OpenComment, OtherFormat}
 use Rattle.jsonptr_c_calls.specs.declared.open_text.OpenText.{OpenText}
 use Rattle.jsonptr_c_calls.specs.declared.text_format.TextFormat.{TextFormat}
-use Rattle.jsonptr_c_calls.specs.declared.text_format.TextFormat.TheVariants.{Json, Commented}
+use Rattle.jsonptr_c_calls.specs.declared.text_format.TextFormat.TheVariants.{Json, Commented, Toml}
 
--- `IsJsonOf format body json`: `json` is the text `body` without its comments
+-- `IsJsonOf format body json`: `json` is the text `body` without its comments. Of a TOML text there is none
 abbrev pub IsJsonOf : TextFormat → Text → Text → Type 0
 IsJsonOf Json body json = json ≡ body
 IsJsonOf Commented body json = IsWithoutComments body json
+IsJsonOf Toml body json = ⊥
 
--- `FailsToStrip format body e`: a block comment is not closed, or an allocation failed, and `e` reports that
+-- `FailsToStrip format body e`: a block comment is not closed, or the text is TOML, or an allocation failed, and `e` reports that
 abbrev pub FailsToStrip : TextFormat → Text → CallError → Type 0
 FailsToStrip Json body e = ⊥
 FailsToStrip Commented body e = IsOutOfMemory e ⊎ ((n : ℕ) × IsUnterminated body n × (e ≡ OpenComment n))
+FailsToStrip Toml body e = e ≡ OtherFormat
 
 -- `IsIn t mark body json`: the text `t` is the byte order mark `mark`, or none, and `body`, which is `json` without its comments
 abbrev pub IsIn : OpenText → Text → Text → Text → Type 0
 IsIn t mark body json = IsMark mark × (string_bytes t.text ≡ mark ++ body) × IsJsonOf t.format body json
 
--- `IsNotBare format text e`: a block comment of the text is not closed, or an allocation failed, and `e` reports that
+-- `IsNotBare format text e`: a block comment of the text is not closed, or the text is TOML, or an allocation failed, and `e` reports
+-- that
 abbrev pub IsNotBare : TextFormat → Text → CallError → Type 0
 IsNotBare format text e =
     IsOutOfMemory e ⊎ ((mark body : Text) × IsMark mark × (text ≡ mark ++ body) × FailsToStrip format body e)

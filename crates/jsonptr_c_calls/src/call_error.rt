@@ -83,6 +83,19 @@ pub enum CallError {
     },
     /// An edit of a text is possible, but not in place.
     NotInPlace,
+    /// A text is not TOML.
+    NotToml {
+        /// The offset of the first byte at fault.
+        offset: usize,
+    },
+    /// The values of a TOML document nest deeper than 80, or would do so after an edit.
+    TomlTooDeep,
+    /// A value is null or an integer that TOML has not, or contains one.
+    NotTomlValue,
+    /// A document would have no TOML text, as one that is not a table.
+    NoTomlText,
+    /// The call does not work on texts of this format.
+    OtherFormat,
 }
 
 impl From<AllocError> for CallError {

@@ -48,8 +48,14 @@ pub const NOT_LOCATED: u32 = 16;
 pub const NO_VALUE: u32 = 17;
 /// The edit is possible, but not in place.
 pub const NOT_IN_PLACE: u32 = 18;
+/// A text is not TOML.
+pub const NOT_TOML: u32 = 19;
+/// A value is none of TOML, or a document would have no TOML text.
+pub const NOT_TOML_VALUE: u32 = 20;
 /// The member cannot be renamed so.
 pub const NOT_RENAMED: u32 = 21;
+/// The call does not work on texts of this format.
+pub const OTHER_FORMAT: u32 = 22;
 
 /// A pointer is not empty and does not start with a slash.
 pub const KIND_NO_LEADING_SLASH: u32 = 1;
@@ -95,6 +101,10 @@ pub const KIND_NOTHING_THERE: u32 = 20;
 pub const KIND_NOT_A_MEMBER: u32 = 21;
 /// Another member of the object has the key.
 pub const KIND_KEY_TAKEN: u32 = 22;
+/// The values of a TOML document nest, or would nest, deeper than those that are read.
+pub const KIND_TOML_TOO_DEEP: u32 = 23;
+/// The TOML document would have no text, as one that is not a table.
+pub const KIND_NO_TOML_TEXT: u32 = 24;
 
 /// The member `op` of an operation.
 pub const MEMBER_OP: u32 = 1;
@@ -192,10 +202,16 @@ fn status_number(call_error: &CallError) -> u32
         CallError::Assign(_) => NOT_ASSIGNED,
         CallError::NotPatch(_) => NOT_PATCH,
         CallError::PatchFailed(_) => PATCH_FAILED,
-        CallError::TooDeep | CallError::InverseTooDeep | CallError::TextTooDeep => TOO_DEEP,
+        CallError::TooDeep
+        | CallError::InverseTooDeep
+        | CallError::TextTooDeep
+        | CallError::TomlTooDeep => TOO_DEEP,
         CallError::NotRenamed(_) => NOT_RENAMED,
         CallError::OpenComment { .. } => NOT_JSON,
         CallError::NotInPlace => NOT_IN_PLACE,
+        CallError::NotToml { .. } => NOT_TOML,
+        CallError::NotTomlValue | CallError::NoTomlText => NOT_TOML_VALUE,
+        CallError::OtherFormat => OTHER_FORMAT,
     }
 }
 
@@ -212,7 +228,9 @@ fn fields_of(call_error: &CallError, pointer: &[u8]) -> ErrorRecord
             member: argument_number(*argument),
             ..at_offset(*offset)
         },
-        CallError::NotJson { offset } | CallError::NoValue { offset } => at_offset(*offset),
+        CallError::NotJson { offset }
+        | CallError::NoValue { offset }
+        | CallError::NotToml { offset } => at_offset(*offset),
         CallError::NotExact(lost) => ErrorRecord {
             length: lost.length as u64,
             ..at_offset(lost.offset.unwrap_or(0))
@@ -230,6 +248,8 @@ fn fields_of(call_error: &CallError, pointer: &[u8]) -> ErrorRecord
         CallError::PatchFailed(failed) => { patch_row(&failed.error, fault_number(failed.pointer)) }
         CallError::InverseTooDeep => of_kind(KIND_INVERSE_TOO_DEEP),
         CallError::TextTooDeep => of_kind(KIND_TEXT_TOO_DEEP),
+        CallError::TomlTooDeep => of_kind(KIND_TOML_TOO_DEEP),
+        CallError::NoTomlText => of_kind(KIND_NO_TOML_TEXT),
         CallError::NotRenamed(error) => of_kind(rename_kind(*error)),
         CallError::OpenComment { offset } => ErrorRecord {
             kind: KIND_OPEN_COMMENT,
@@ -241,7 +261,9 @@ fn fields_of(call_error: &CallError, pointer: &[u8]) -> ErrorRecord
         | CallError::NotLocated
         | CallError::OtherType
         | CallError::TooDeep
-        | CallError::NotInPlace => ErrorRecord::none(),
+        | CallError::NotInPlace
+        | CallError::NotTomlValue
+        | CallError::OtherFormat => ErrorRecord::none(),
     }
 }
 

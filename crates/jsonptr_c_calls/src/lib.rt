@@ -35,4 +35,6 @@ pub mod text_handle;
 pub mod text_reads;
 mod text_slot;
 pub mod texts;
+mod toml_edits;
+pub mod toml_value;
 pub mod values;

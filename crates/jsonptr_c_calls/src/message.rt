@@ -67,6 +67,12 @@ impl fmt::Display for ErrorRecord {
             TOO_DEEP if self.kind == KIND_TEXT_TOO_DEEP => {
                 f.write_str("the text would nest deeper than 127")
             }
+            TOO_DEEP if self.kind == KIND_TOML_TOO_DEEP => {
+                f.write_str("values of the TOML document nest, or would nest, deeper than 80")
+            }
+            NOT_TOML_VALUE if self.kind == KIND_NO_TOML_TEXT => {
+                f.write_str("the document would have no TOML text")
+            }
             NOT_JSON if self.kind == KIND_OPEN_COMMENT => f.write_str("comment is not closed"),
             status => f.write_str(fixed_message(status)),
         }
@@ -91,6 +97,9 @@ fn fixed_message(status: u32) -> &'static str
         NOT_LOCATED => "value cannot be located in the text",
         TOO_DEEP => "the document could nest deeper than 10,127",
         NOT_IN_PLACE => "the edit is possible, but not in place",
+        NOT_TOML => "text is not TOML",
+        NOT_TOML_VALUE => "the value is null or an integer that TOML has not, or contains one",
+        OTHER_FORMAT => "the call does not work on texts of this format",
         _ => "unknown status",
     }
 }

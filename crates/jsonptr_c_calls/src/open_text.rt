@@ -1,12 +1,14 @@
 //! A text that is edited many times.
-ghost use Rattle.std.specs.Prelude.{◌≡◌, ◌⊎◌, false, IfErr, IfOk, IfSome, IsUtf8, MatchOption, None, OnErr, OnOk, Some, string_bytes, ⊤};
+ghost use Rattle.std.specs.Prelude.{◌≡◌, ◌⊎◌, not, false, IfErr, IfOk, IfSome, IsUtf8, MatchOption, None, OnErr, OnOk, Some, string_bytes, ⊤};
 ghost use Rattle.serde_json.specs.Data.{Data};
 ghost use Rattle.serde_json.specs.Read.{read};
 ghost use Rattle.jsonptr_text_edit.specs.Edited.{IfInPlace, text_of as edited_text};
 ghost use Rattle.jsonptr_text_edit.specs.declared.edit_error.EditError.TheVariants.{NotThere};
-ghost use Rattle.jsonptr_text_step.specs.OneLine.{StaysOneLine};
+ghost use Rattle.jsonptr_c_calls.specs.Changing.{IsChange, IsSmallest};
 ghost use Rattle.jsonptr_c_calls.specs.Failures.{IsOutOfMemory};
-ghost use Rattle.jsonptr_c_calls.specs.OpenTexts.{BytesIn, EditsIn, FailsIn, FailsToEdit, FailsToRead, IsEdited, IsMade, IsNotEdited, IsNotJson, IsNotOpened, IsSame, LacksEdit, LacksEditIn, LacksIn, ReadsAs, ReportsEdit};
+ghost use Rattle.jsonptr_c_calls.specs.Relayouts.{IsLaidOut, IsNotLaidOut, IsNotRelaid, IsRelaid, is_kept};
+ghost use Rattle.jsonptr_c_calls.specs.declared.call_error.CallError.TheVariants.{NotInPlace};
+ghost use Rattle.jsonptr_c_calls.specs.OpenTexts.{BytesIn, EditsIn, FailsIn, FailsToEdit, FailsToRead, IsEdited, IsMade, IsNotEdited, IsNotJson, IsNotOpened, IsSame, KeepsLine, LacksEdit, LacksEditIn, LacksIn, ReadsAs, ReportsEdit};
 
 use crate::call_error::{Argument, CallError};
 use crate::change::Change;
@@ -14,9 +16,11 @@ use crate::mark::{parts_of, with_mark};
 use crate::pointers::text_of;
 use crate::read::stop;
 use crate::text_format::TextFormat;
+use crate::toml_edits::{check_toml, edit_in_toml};
 use jsonptr::Fault;
 use jsonptr_comments_edit::{Buffers, CommentedText, Edit, EditError, Edited, edit_commented};
 use jsonptr_text_edit::edit_text;
+use jsonptr_text_relayout::{Relaid, RelayoutTextError, relayout_text};
 use jsonptr_text_resolve::is_document;
 use std::alloc::Global;
 
@@ -49,6 +53,8 @@ impl OpenText {
     /// - [`CallError::NotUtf8`].
     /// - [`CallError::OpenComment`] if a block comment is not closed.
     /// - [`CallError::NotJson`] if the text, without its comments, is not JSON.
+    /// - [`CallError::NotToml`] if a text is opened as TOML and is not, and [`CallError::TomlTooDeep`] if its
+    ///   values nest deeper than 80.
     /// - [`CallError::Memory`] if an allocation fails.
     ///
     /// # Examples
@@ -84,9 +90,12 @@ impl OpenText {
     ///
     /// - Those of the edit: [`CallError::Assign`], [`CallError::NotRenamed`], [`CallError::PatchFailed`],
     ///   [`CallError::TextTooDeep`].
+    /// - On TOML [`CallError::OtherFormat`] for a patch, [`CallError::NotTomlValue`] if the value is null or an
+    ///   integer beyond 64 bits, or contains one, [`CallError::NoTomlText`] if the document would not be a
+    ///   table, and [`CallError::TomlTooDeep`] if its values would nest deeper than 80.
     /// - [`CallError::NotInPlace`] if the edit is possible, but not in place, without `may_reformat`.
-    /// - [`CallError::NotJson`] and [`CallError::OpenComment`] never come for a text that
-    ///   [`open`](OpenText::open) has returned.
+    /// - [`CallError::NotJson`], [`CallError::OpenComment`] and [`CallError::NotToml`] never come for a text
+    ///   that [`open`](OpenText::open) has returned.
     /// - [`CallError::Memory`] if an allocation fails.
     ///
     /// The text is unchanged.
@@ -102,12 +111,63 @@ impl OpenText {
         let Some(made) = make(&mut self.buffers, self.format, self.text.as_str(), edit)? else {
             return Ok(None);
         };
+        match self.put(made, may_reformat) {
+            Ok(change) => Ok(Some(change)),
+            Err(error) => Err(error),
+        }
+    }
+
+    /// Makes the document of the new text in this text, in the layout that it has, and returns what changed.
+    /// A text that already reads as that document is unchanged.
+    ///
+    /// # Errors
+    ///
+    /// - [`CallError::OtherFormat`] if the text is not JSON without comments.
+    /// - [`CallError::NotJson`] if the new text is not JSON.
+    /// - [`CallError::NotInPlace`] if the new document cannot be laid out so, without `may_reformat`, with
+    ///   which the text becomes the new one.
+    /// - [`CallError::Memory`] if an allocation fails.
+    ///
+    /// The text is unchanged.
+    pub fn relayout(&mut self, new: &str, may_reformat: bool) -> Result<Change, CallError>
+        ensures relaid { IfOk result (IsRelaid self.old new.now self.new) }
+        ensures allowed { may_reformat ≡ false
+            → IfOk result (λ change. change.is_reformatted ≡ false) }
+        ensures unchanged { OnErr result (IsSame self.old self.new) }
+        ensures refused { IfErr result (IsNotRelaid may_reformat self.old new.now) }
+    {
+        let TextFormat::Json = self.format else {
+            return Err(CallError::OtherFormat);
+        };
+        let made = lay_out(&mut self.buffers, self.text.as_str(), new)?;
+        self.put(made, may_reformat)
+    }
+
+    /// Takes a new text, and returns what it changes.
+    ///
+    /// # Errors
+    ///
+    /// [`CallError::NotInPlace`] if the text is not made in place, without `may_reformat`. The text is
+    /// unchanged.
+    fn put(&mut self, made: MadeText, may_reformat: bool) -> Result<Change, CallError>
+        ensures text { OnOk result (self.new.text ≡ made.text) }
+        ensures format { self.new.format ≡ self.old.format }
+        ensures change { IfOk result (λ change.
+            IsChange (string_bytes self.old.text) (string_bytes made.text) change
+            × IsSmallest (string_bytes self.old.text) (string_bytes made.text) change) }
+        ensures reformatted { IfOk result (λ change. change.is_reformatted ≡ not made.is_in_place) }
+        ensures allowed { may_reformat ≡ false
+            → IfOk result (λ change. change.is_reformatted ≡ false) }
+        ensures unchanged { OnErr result (IsSame self.old self.new) }
+        ensures refused { IfErr result
+            (λ e. (may_reformat ≡ false) × (made.is_in_place ≡ false) × (e ≡ NotInPlace)) }
+    {
         if !made.is_in_place && !may_reformat {
             return Err(CallError::NotInPlace);
         }
         let change = Change::between(self.text.as_str(), made.text.as_str(), !made.is_in_place);
         self.text = made.text;
-        Ok(Some(change))
+        Ok(change)
     }
 }
 
@@ -131,6 +191,7 @@ fn check(buffers: &mut Buffers, format: TextFormat, text: &str) -> Result<(), Ca
             }),
             Err(Fault::Memory(error)) => Err(CallError::Memory(error)),
         },
+        TextFormat::Toml => check_toml(buffers.alloc, parts.body, skipped),
     }
 }
 
@@ -193,7 +254,7 @@ fn make_in(
         (λ o. IfSome o (λ e. EditsIn format body.now edit.now (edited_text e))) }
     ensures bytes { IfOk result
         (λ o. IfSome o (IfInPlace (BytesIn format body.now edit.now))) }
-    ensures lines { IfOk result (λ o. IfSome o (IfInPlace (StaysOneLine body.now))) }
+    ensures lines { IfOk result (λ o. IfSome o (IfInPlace (KeepsLine format body.now))) }
     ensures nothing { IfOk result
         (λ o. MatchOption o (LacksEditIn format body.now edit.now) (λ _. ⊤)) }
     ensures refused { IfErr result (FailsIn format body.now edit.now) }
@@ -214,7 +275,42 @@ fn make_in(
             }),
             Err(Fault::Memory(error)) => Err(CallError::Memory(error)),
         },
+        TextFormat::Toml => edit_in_toml(alloc, body, edit),
     }
+}
+
+/// Returns the text of the document of the new text, in the layout of this text, with its byte order mark.
+///
+/// # Errors
+///
+/// [`CallError::NotJson`], and [`CallError::Memory`] if an allocation fails.
+fn lay_out(buffers: &mut Buffers, text: &str, new: &str) -> Result<MadeText, CallError>
+    ensures made { IfOk result
+        (λ made. IsLaidOut text.now new.now (string_bytes made.text) made.is_in_place) }
+    ensures refused { IfErr result (IsNotLaidOut text.now new.now) }
+{
+    let alloc = buffers.alloc;
+    let parts = parts_of(text);
+    let relaid = match relayout_text(buffers, parts.body, new) {
+        Ok(relaid) => relaid,
+        Err(RelayoutTextError::OldNotJson) => return Err(CallError::NotJson {
+            offset: stop(alloc, parts.body)?,
+        }),
+        Err(RelayoutTextError::NewNotJson) => return Err(CallError::NotJson {
+            offset: stop(alloc, new)?,
+        }),
+        Err(RelayoutTextError::Memory(error)) => return Err(CallError::Memory(error)),
+    };
+    let is_in_place = is_kept(&relaid);
+    let text = with_mark(alloc, parts.mark, relaid.into_string())?;
+    Ok(MadeText { text, is_in_place })
+}
+
+/// Returns whether the text is in the layout of the old one.
+fn is_kept(relaid: &Relaid) -> bool
+    ensures { result ≡ is_kept relaid.now }
+{
+    matches!(relaid, Relaid::Kept(_))
 }
 
 /// Returns the error of a call whose edit fails, and `None` if it deletes a value that is not there. `json` is

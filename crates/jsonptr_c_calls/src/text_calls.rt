@@ -1,6 +1,7 @@
 //! Texts in a handle.
 ghost use Rattle.std.specs.Prelude.{◌≡◌, ◌≤◌, false, IfErr, IfOk, IfSome, IsUtf8, MatchOption, OnErr, OnOk, length, string_bytes, take, ⊤};
 ghost use Rattle.jsonptr_c_calls.specs.OpenTexts.{Deletes, IsNotOpened, ReadsAs, Renames};
+ghost use Rattle.jsonptr_c_calls.specs.Relayouts.{IsNotRelaidIn, Relays};
 ghost use Rattle.jsonptr_c_calls.specs.TextCalls.{AssignsText, FindsNothing, IsNotAssignedIn, IsNotCopied, IsNotDeletedIn, IsNotPatchedIn, IsNotRenamedIn, Makes, PatchesText, part};
 ghost use Rattle.jsonptr_c_calls.specs.TextHandle.{ChangesText, FailsOnText, HoldsTextWith, IsVacant, KeepsText};
 ghost use Rattle.jsonptr_c_calls.specs.TextReads.{IsBareText, IsNotLocatedIn, IsNotPointedAtIn, IsNotStripped, LocatesIn, PointsAtIn};
@@ -86,6 +87,22 @@ pub fn free(alloc: Global, text: &mut TextHandle)
 /// let mut out = [0u8; 15];
 /// assert_eq!(rt; text_calls::copy(alloc, &mut text, 0, usize::MAX, &mut out).ok(), Some(15));
 /// assert_eq!(rt; out, *b"[1.10, 2, 3.30]");
+/// text_calls::free(alloc, &mut text);
+/// ```
+///
+/// In TOML the value is written as TOML writes it:
+///
+/// ```rust
+/// let mut text = TextHandle::empty();
+/// let toml = b"size = 3 # px\n";
+/// assert!(rt; text_calls::open(alloc, &mut text, TextFormat::Toml, toml).is_ok());
+/// let unit = text_calls::assign(alloc, &mut text, b"/unit", b"{\"name\": \"px\"}", false);
+/// assert!(rt; unit.is_ok());
+/// let mut out = [0u8; 34];
+/// assert_eq!(rt; text_calls::copy(alloc, &mut text, 0, usize::MAX, &mut out).ok(), Some(34));
+/// assert!(rt; out.starts_with(b"size = 3 # px\n\n[unit]\nname = \"px\"\n"));
+/// let none = text_calls::assign(alloc, &mut text, b"/unit", b"[null]", false);
+/// assert!(rt; matches!(none, Err(CallError::NotTomlValue)));
 /// text_calls::free(alloc, &mut text);
 /// ```
 pub fn assign(
@@ -242,6 +259,51 @@ pub fn patch(
         return Err(CallError::NoDocument);
     };
     let outcome = text_edits::patch(&mut opened, given, may_reformat);
+    text.put(opened);
+    outcome
+}
+
+/// Makes the document of the JSON text that the bytes are in the text, in the layout that it has, by
+/// [`OpenText::relayout`]. Returns which bytes of the text are replaced.
+///
+/// # Errors
+///
+/// - [`CallError::NotUtf8`] for the new text.
+/// - [`CallError::NoDocument`] if the handle holds no text.
+/// - Those of [`OpenText::relayout`].
+///
+/// The text is unchanged.
+///
+/// # Examples
+///
+/// ```rust
+/// let mut text = TextHandle::empty();
+/// let sizes = b"{ \"sizes\": [1.00, 2] }";
+/// assert!(rt; text_calls::open(alloc, &mut text, TextFormat::Json, sizes).is_ok());
+/// let new = b"{\"name\":\"a\",\"sizes\":[1.0]}";
+/// assert!(rt; text_calls::relayout(alloc, &mut text, new, false).is_ok());
+/// let mut out = [0u8; 32];
+/// assert_eq!(rt; text_calls::copy(alloc, &mut text, 0, usize::MAX, &mut out).ok(), Some(32));
+/// assert_eq!(rt; out, *b"{ \"sizes\": [1.00], \"name\": \"a\" }");
+/// text_calls::free(alloc, &mut text);
+/// ```
+pub fn relayout(
+    alloc: Global,
+    text: &mut TextHandle,
+    new: &[u8],
+    may_reformat: bool,
+) -> Result<Change, CallError>
+    ensures relaid { IfOk result (λ change. Relays new.now text.old change text.new) }
+    ensures allowed { may_reformat ≡ false → IfOk result (λ change. change.is_reformatted ≡ false) }
+    ensures utf8 { OnOk result (IsUtf8 new.now) }
+    ensures refused { IfErr result (IsNotRelaidIn may_reformat new.now text.old) }
+    ensures unchanged { OnErr result (KeepsText text.old text.new) }
+{
+    let given = text_of(Argument::Text, new)?;
+    let Some(mut opened) = text.take(alloc) else {
+        return Err(CallError::NoDocument);
+    };
+    let outcome = opened.relayout(given, may_reformat);
     text.put(opened);
     outcome
 }

@@ -18,7 +18,8 @@ use std::borrow::CowStr;
 ///
 /// # Errors
 ///
-/// Those of [`locations::locate`] for the text without its comments.
+/// [`CallError::OtherFormat`] if the text is TOML, and those of [`locations::locate`] for the text without its
+/// comments.
 ///
 /// # Examples
 ///
@@ -50,7 +51,8 @@ pub fn locate(alloc: Global, text: &OpenText, pointer: &[u8]) -> Result<TextSpan
 ///
 /// # Errors
 ///
-/// Those of [`locations::pointer_at`] for the text without its comments. The buffer is unchanged.
+/// [`CallError::OtherFormat`] if the text is TOML, and those of [`locations::pointer_at`] for the text without
+/// its comments. The buffer is unchanged.
 ///
 /// # Examples
 ///
@@ -99,8 +101,11 @@ fn at_offset(error: CallError, offset: usize) -> CallError
 ///
 /// # Errors
 ///
-/// [`CallError::Memory`] if an allocation fails. [`CallError::OpenComment`] never comes for a text that
-/// [`OpenText::open`] has returned. The text is unchanged.
+/// - [`CallError::OtherFormat`] if the text is TOML.
+/// - [`CallError::Memory`] if an allocation fails.
+///
+/// [`CallError::OpenComment`] never comes for a text that [`OpenText::open`] has returned. The text is
+/// unchanged.
 ///
 /// # Examples
 ///
@@ -142,8 +147,9 @@ fn bare_text(alloc: Global, format: TextFormat, text: &str) -> Result<String, Ca
 ///
 /// # Errors
 ///
-/// [`CallError::OpenComment`] if a block comment is not closed, and [`CallError::Memory`] if an allocation
-/// fails.
+/// - [`CallError::OpenComment`] if a block comment is not closed.
+/// - [`CallError::OtherFormat`] if the text is TOML.
+/// - [`CallError::Memory`] if an allocation fails.
 fn json_of(alloc: Global, format: TextFormat, body: &str) -> Result<CowStr<'_>, CallError>
     ensures json { IfOk result (λ c. IsJsonOf format body.now (cow_str_bytes c)) }
     ensures refused { IfErr result (FailsToStrip format body.now) }
@@ -157,5 +163,6 @@ fn json_of(alloc: Global, format: TextFormat, body: &str) -> Result<CowStr<'_>, 
             }),
             Err(Fault::Memory(error)) => Err(CallError::Memory(error)),
         },
+        TextFormat::Toml => Err(CallError::OtherFormat),
     }
 }

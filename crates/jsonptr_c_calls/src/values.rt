@@ -1,12 +1,14 @@
 //! Values of a document.
 ghost use Rattle.std.specs.Prelude.{◌≡◌, ◌≤◌, IfErr, IfOk, IsUtf8, OnErr, OnOk, take, length};
 ghost use Rattle.serde_json.specs.View.{view};
-ghost use Rattle.jsonptr_c_calls.specs.Failures.{Unfound, IsNotPrinted, IsNotRead};
+ghost use Rattle.jsonptr_c_calls.specs.Failures.{Unfound, IsNotPrinted, IsNotQuoted, IsNotRead};
+ghost use Rattle.serde_json.specs.Data.{string as json_string};
 ghost use Rattle.jsonptr_c_calls.specs.Values.{FindsAtPointer, IsJsonText, FindsTextOf, FindsString};
+ghost use Rattle.jsonptr_text_resolve.specs.declared.format.Format.TheVariants.{Compact};
 
 use crate::buffer::copy_to;
-use crate::call_error::CallError;
-use crate::pointers::parse;
+use crate::call_error::{Argument, CallError};
+use crate::pointers::{parse, text_of};
 use jsonptr::Fault;
 use jsonptr_text_resolve::Format;
 use serde_json::Value;
@@ -98,4 +100,33 @@ pub fn string(
         Some(text) => copy_to(text.as_bytes(), out),
         None => Err(CallError::OtherType),
     }
+}
+
+/// Copies the JSON text of the string to the buffer, with its quotation marks and its escapes, and returns its
+/// length.
+///
+/// # Errors
+///
+/// - [`CallError::NotUtf8`].
+/// - [`CallError::NoRoom`] if the buffer is shorter than the text.
+/// - [`CallError::Memory`] if an allocation fails.
+///
+/// The buffer is unchanged.
+///
+/// # Examples
+///
+/// ```rust
+/// let mut out = [0u8; 6];
+/// assert_eq!(rt; values::quote(alloc, b"a\"b", &mut out).ok(), Some(6));
+/// assert_eq!(rt; out, *b"\"a\\\"b\"");
+/// ```
+pub fn quote(alloc: Global, string: &[u8], out: &mut [u8]) -> Result<usize, CallError>
+    ensures quoted { IfOk result (λ n. IsJsonText Compact (json_string string.now) (take n out.new)) }
+    ensures fits { IfOk result (λ n. n ≤ length out.new) }
+    ensures utf8 { OnOk result (IsUtf8 string.now) }
+    ensures refused { IfErr result (IsNotQuoted string.now (length out.old)) }
+    ensures output_unchanged { OnErr result (out.new ≡ out.old) }
+{
+    let value = Value::String(String::from_str(alloc, text_of(Argument::Text, string)?)?);
+    copy_to(&json_text(alloc, &value, Format::Compact)?, out)
 }

@@ -71,7 +71,7 @@ static void check_bad(void) {
     EXPECT(jsonptr_text_open(NULL, 0, "1", 1, NULL), BAD);
     EXPECT(jsonptr_text_open(&text, 0, NULL, 1, NULL), BAD);
     EXPECT(jsonptr_text_open(&text, 0, "1", huge, NULL), BAD);
-    EXPECT(jsonptr_text_open(&text, 2, "1", 1, &error), BAD);
+    EXPECT(jsonptr_text_open(&text, 3, "1", 1, &error), BAD);
     expect_number("status of the error", "a format", error.status, BAD);
     EXPECT(jsonptr_text_assign(NULL, "", 0, "1", 1, 0, &change, NULL), BAD);
     EXPECT(jsonptr_text_assign(&text, NULL, 1, "1", 1, 0, &change, NULL), BAD);
@@ -90,6 +90,12 @@ static void check_bad(void) {
     EXPECT(jsonptr_text_patch(NULL, "[]", 2, 0, NULL, NULL), BAD);
     EXPECT(jsonptr_text_patch(&text, NULL, 2, 0, NULL, NULL), BAD);
     EXPECT(jsonptr_text_patch(&text, "[]", 2, 1, NULL, NULL), BAD);
+    EXPECT(jsonptr_quote(NULL, 1, out, 8, &length, NULL), BAD);
+    EXPECT(jsonptr_quote("a", huge, out, 8, &length, NULL), BAD);
+    EXPECT(jsonptr_quote("a", 1, NULL, 8, &length, NULL), BAD);
+    EXPECT(jsonptr_text_relayout(NULL, "[]", 2, 0, NULL, NULL), BAD);
+    EXPECT(jsonptr_text_relayout(&text, NULL, 2, 0, NULL, NULL), BAD);
+    EXPECT(jsonptr_text_relayout(&text, "[]", 2, 1, NULL, NULL), BAD);
     EXPECT(jsonptr_text_remove_comments(NULL, &error), BAD);
     EXPECT(jsonptr_text_locate(NULL, "", 0, NULL, NULL, NULL), BAD);
     EXPECT(jsonptr_text_locate(&text, NULL, 1, NULL, NULL, NULL), BAD);
@@ -166,6 +172,7 @@ static void check_empty(void) {
     EXPECT(jsonptr_text_delete(&text, "/a", 2, 0, NULL, NULL, NULL), JSONPTR_OK);
     EXPECT(jsonptr_text_patch(&text, NULL, 0, 0, NULL, NULL), JSONPTR_NOT_JSON);
     EXPECT(jsonptr_text_patch(&text, "[]", 2, 0, NULL, NULL), JSONPTR_OK);
+    EXPECT(jsonptr_text_relayout(&text, NULL, 0, 0, NULL, NULL), JSONPTR_OTHER_FORMAT);
     EXPECT(jsonptr_text_locate(&text, NULL, 0, NULL, NULL, NULL), JSONPTR_OK);
     EXPECT(jsonptr_text_pointer_at(&text, 0, NULL, 0, NULL, NULL), JSONPTR_OK);
     EXPECT(jsonptr_text_remove_comments(&text, NULL), JSONPTR_OK);
@@ -204,6 +211,7 @@ static void check_zero(void) {
     ENDS("text is not JSON", jsonptr_error_message(&error, out, capacity, &n), (void)0);
     ENDS("~b", jsonptr_pointer_token("/~0b", 4, 0, out, capacity, &n, NULL), (void)0);
     ENDS("~1", jsonptr_pointer_escape("/", 1, out, capacity, NULL, NULL), (void)0);
+    ENDS("\"a\"", jsonptr_quote("a", 1, out, capacity, NULL, NULL), (void)0);
     ENDS("/a", (n = 0, jsonptr_pointer_push(out, capacity, &n, "a", 1, NULL)), n = 0);
     ENDS("[\"abc\"]", jsonptr_document_print(&document, 0, out, capacity, NULL, NULL), (void)0);
     ENDS("\"abc\"", jsonptr_document_get(&document, "/0", 2, 0, out, capacity, &n, NULL), (void)0);

@@ -10,6 +10,12 @@ import threading
 
 import jsonptr
 
+try:
+    import tomllib  # noqa: F401
+    HAS_TOML = True
+except ImportError:
+    HAS_TOML = False
+
 SETTINGS = '{\n  // editor\n  "é": [1.00, 2], /* two */\n  "name": "app", // last\n}\n'
 
 
@@ -80,6 +86,66 @@ def check_errors():
     editor.reformat = True
     change = editor.rename("/a", "c")
     assert change.reformatted and editor.text == '{"b":[3],"c":2}'
+
+
+TABLES = '# é\n[project] # ours\nname = "é"\nversion = "1.0"\n\n[tool.app]\nsizes = [3, 5]\n'
+
+
+def check_toml():
+    """Checks edits of TOML, of a `str` and of bytes."""
+    for text in (TABLES, TABLES.encode()):
+        editor = jsonptr.Editor(text, "toml")
+        steps = [
+            (lambda: editor.assign("/project/version", "1.1"), ('"1.0"', '"1.1"')),
+            (lambda: editor.assign("/tool/app/sizes/-", 8.5), ("5]", "5, 8.5]")),
+            (lambda: editor.assign("/project/urls/home", "x"), ('"1.1"\n', '"1.1"\nurls.home = "x"\n')),
+            (lambda: editor.rename("/tool/app", "other app"), ("[tool.app]", '[tool."other app"]')),
+            (lambda: editor.assign("/project/name", jsonptr.Raw('"è"')), ('"é"', '"è"')),
+        ]
+        now = TABLES
+        for step, (old, new) in steps:
+            before, now = now, now.replace(old, new)
+            change = step()
+            wanted = now if isinstance(text, str) else now.encode()
+            assert editor.text == wanted, (editor.text, wanted)
+            apply_change(before if isinstance(text, str) else before.encode(), wanted, change)
+        assert editor.delete("/project/urls") is True and editor.delete("/project/urls") is False
+        for again in (copy.copy(editor), pickle.loads(pickle.dumps(editor))):
+            assert again == editor and again.format == "toml"
+        cases = [
+            (jsonptr.NotTomlValue, editor.assign, "/a", None), (jsonptr.NotTomlValue, editor.assign, "/a", [2 ** 63]),
+            (jsonptr.NotTomlValue, editor.assign, "", 1), (jsonptr.NotAssigned, editor.assign, "/tool/other app/sizes/9", 1),
+            (TypeError, editor.assign, "/a", object()), (jsonptr.NotRenamed, editor.rename, "/project/name", "version"),
+            (jsonptr.OtherFormat, editor.apply, []), (jsonptr.OtherFormat, editor.get, "/project"), (KeyError, editor.__delitem__, "/a"),
+            (jsonptr.OtherFormat, editor.pointer_at, 0), (jsonptr.OtherFormat, editor.remove_comments), (jsonptr.TooDeep, editor.assign, "/a/b", nested(80)),
+            (jsonptr.NotToml, jsonptr.Editor, "a = ", "toml"), (jsonptr.NotFound if HAS_TOML else jsonptr.OtherFormat, editor.value, "/none"),
+        ]
+        text = editor.text
+        for kind, call, *arguments in cases:
+            error = caught(call, *arguments)
+            assert isinstance(error, kind), (kind, error)
+            assert editor.text == text
+        if HAS_TOML:
+            assert editor["/project/name"] == "è" and "/tool" in editor and "/none" not in editor
+            assert jsonptr.Editor("\ufeffa = 1979-05-27", "toml").value("/a").year == 1979
+    with tempfile.TemporaryDirectory() as folder:
+        path = os.path.join(folder, "pyproject.toml")
+        with open(path, "w", encoding="utf-8", newline="") as file:
+            file.write(TABLES.replace("\n", "\r\n"))
+        with jsonptr.edit(path) as project:
+            project["/project/version"] = "2.0"
+            del project["/tool"]
+        with open(path, encoding="utf-8", newline="") as file:
+            written = file.read()
+        assert written == '# é\r\n[project] # ours\r\nname = "é"\r\nversion = "2.0"\r\n', written
+
+
+def nested(levels):
+    """Returns an empty list in so many lists."""
+    value = []
+    for _ in range(levels - 1):
+        value = [value]
+    return value
 
 
 def check_copies():
@@ -223,6 +289,7 @@ def check_threads():
 if __name__ == "__main__":
     check_edits()
     check_errors()
+    check_toml()
     check_copies()
     check_files()
     check_names()

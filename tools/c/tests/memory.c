@@ -40,9 +40,11 @@ void __wrap_free(void *block) {
 #define EDITS "[{\"op\":\"copy\",\"from\":\"/a~1b\",\"path\":\"/copy\"},{\"op\":\"add\",\"path\":\"/a~1b/-\",\"value\":\"new\"}," \
               "{\"op\":\"remove\",\"path\":\"/long key that is stored\"}]"
 
+#define TABLES "# one\n[a] # two\nb = [1.0, 'a string that is stored']\n\n[long_key.that_is_stored]\nc = 1\n"
+
 typedef struct state {
     jsonptr_document document, other;
-    jsonptr_text text;
+    jsonptr_text text, json, toml;
     char out[1024];
 } state;
 
@@ -216,6 +218,47 @@ static jsonptr_status strip_text(state *s) {
     return jsonptr_text_remove_comments(&s->text, NULL);
 }
 
+static jsonptr_status relay_text(state *s) {
+    return jsonptr_text_relayout(&s->json, TEXT(OTHER), 0, NULL, NULL);
+}
+
+static jsonptr_status open_toml(state *s) {
+    return jsonptr_text_open(&s->toml, JSONPTR_FORMAT_TOML, TEXT("x = 'a string that is stored'\n"), NULL);
+}
+
+/* A text that is not TOML, which is read again for the offset. */
+static jsonptr_status open_no_toml(state *s) {
+    jsonptr_status status = jsonptr_text_open(&s->toml, JSONPTR_FORMAT_TOML, TEXT("x = 'a string that is stored'\ny = \n"), NULL);
+    return status == JSONPTR_NOT_TOML ? JSONPTR_OK : status;
+}
+
+static jsonptr_status assign_toml(state *s) {
+    return jsonptr_text_assign(&s->toml, TEXT("/new~1member/of"), TEXT("{\"k\": [\"a value\", {\"z\": 1.5}], \"l\": true}"), 0, NULL, NULL);
+}
+
+static jsonptr_status not_assign_toml(state *s) {
+    jsonptr_status status = jsonptr_text_assign(&s->toml, TEXT("/a/b/9"), TEXT("[\"a value\"]"), 0, NULL, NULL);
+    return status == JSONPTR_NOT_ASSIGNED ? JSONPTR_OK : status;
+}
+
+static jsonptr_status no_toml_value(state *s) {
+    jsonptr_status status = jsonptr_text_assign(&s->toml, TEXT("/a/b"), TEXT("{\"k\": [\"a value\", {\"z\": null}]}"), 0, NULL, NULL);
+    return status == JSONPTR_NOT_TOML_VALUE ? JSONPTR_OK : status;
+}
+
+static jsonptr_status delete_toml(state *s) {
+    return jsonptr_text_delete(&s->toml, TEXT("/long_key"), 0, NULL, NULL, NULL);
+}
+
+static jsonptr_status rename_toml(state *s) {
+    return jsonptr_text_rename(&s->toml, TEXT("/long_key/that_is_stored"), TEXT("another name"), 0, NULL, NULL);
+}
+
+static jsonptr_status patch_toml(state *s) {
+    jsonptr_status status = jsonptr_text_patch(&s->toml, TEXT(EDITS), JSONPTR_REFORMAT, NULL, NULL);
+    return status == JSONPTR_OTHER_FORMAT ? JSONPTR_OK : status;
+}
+
 static jsonptr_status copy_text(state *s) {
     return jsonptr_text_copy(&s->text, 0, SIZE_MAX, s->out, sizeof s->out, NULL, NULL);
 }
@@ -226,6 +269,10 @@ static jsonptr_status token(state *s) {
 
 static jsonptr_status escape(state *s) {
     return jsonptr_pointer_escape(TEXT("a/b"), s->out, sizeof s->out, NULL, NULL);
+}
+
+static jsonptr_status quote(state *s) {
+    return jsonptr_quote(TEXT("a \"string\" that is quoted"), s->out, sizeof s->out, NULL, NULL);
 }
 
 static jsonptr_status push(state *s) {
@@ -249,8 +296,10 @@ static const struct {
     { "not_assign_text", not_assign_text }, { "delete_text", delete_text }, { "delete_nothing", delete_nothing },
     { "rename_text", rename_text }, { "not_rename_text", not_rename_text }, { "patch_text", patch_text },
     { "fail_text", fail_text }, { "reformat_text", reformat_text }, { "copy_text", copy_text }, { "locate_text", locate_text },
-    { "point_text", point_text }, { "strip_text", strip_text },
-    { "escape", escape }, { "push", push }, { "message", message },
+    { "point_text", point_text }, { "strip_text", strip_text }, { "relay_text", relay_text }, { "open_toml", open_toml }, { "open_no_toml", open_no_toml },
+    { "assign_toml", assign_toml }, { "not_assign_toml", not_assign_toml }, { "no_toml_value", no_toml_value },
+    { "delete_toml", delete_toml }, { "rename_toml", rename_toml }, { "patch_toml", patch_toml },
+    { "escape", escape }, { "quote", quote }, { "push", push }, { "message", message },
 };
 
 int main(void) {
@@ -258,7 +307,7 @@ int main(void) {
     for (size_t i = 0; i < sizeof calls / sizeof *calls; i++) {
         jsonptr_status status = JSONPTR_NO_MEMORY;
         for (long round = 0; status == JSONPTR_NO_MEMORY; round++) {
-            state s = { .document = parsed(DOCUMENT), .other = parsed(OTHER), .text = opened(JSONPTR_FORMAT_JSONC, SETTINGS) };
+            state s = { .document = parsed(DOCUMENT), .other = parsed(OTHER), .text = opened(JSONPTR_FORMAT_JSONC, SETTINGS), .json = opened(JSONPTR_FORMAT_JSON, DOCUMENT), .toml = opened(JSONPTR_FORMAT_TOML, TABLES) };
             left = round;
             status = calls[i].call(&s);
             left = -1;
@@ -266,6 +315,8 @@ int main(void) {
                 expect_document(calls[i].name, &s.document, DOCUMENT);
                 expect_document(calls[i].name, &s.other, OTHER);
                 expect_open_text(calls[i].name, &s.text, SETTINGS);
+                expect_open_text(calls[i].name, &s.json, DOCUMENT);
+                expect_open_text(calls[i].name, &s.toml, TABLES);
                 total++;
             } else {
                 expect_number("status", calls[i].name, status, JSONPTR_OK);
@@ -273,6 +324,8 @@ int main(void) {
             jsonptr_document_free(&s.document);
             jsonptr_document_free(&s.other);
             jsonptr_text_free(&s.text);
+            jsonptr_text_free(&s.toml);
+            jsonptr_text_free(&s.json);
             expect_number("blocks left", calls[i].name, (unsigned long long)blocks, 0);
         }
     }

@@ -927,9 +927,10 @@ static void check_handles(void) {
 #define BOM "\xEF\xBB\xBF"
 #define JSON JSONPTR_FORMAT_JSON
 #define JSONC JSONPTR_FORMAT_JSONC
+#define TOML JSONPTR_FORMAT_TOML
 #define TWO_KEYS "{\"a\": 1.0, // one\n \"a\": 2, \"b\": 3}"
 
-enum kind { ASSIGN, DELETE, RENAME, PATCH };
+enum kind { ASSIGN, DELETE, RENAME, PATCH, RELAYOUT };
 
 static const struct {
     enum kind call;
@@ -977,6 +978,28 @@ static const struct {
     { PATCH, JSON, "[1]", "", "[{\"op\": \"tst\", \"path\": \"/0\", \"value\": 2}]", 0, JSONPTR_NOT_PATCH, NULL, 0, 0, JSONPTR_KIND_UNKNOWN_OP },
     { PATCH, JSON, "[1]", "", "[{]", 0, JSONPTR_NOT_JSON, NULL, 0, 0, 0 },
     { PATCH, JSON, "[1]", "", "[\"\xff\"]", 0, JSONPTR_NOT_UTF8, NULL, 0, 0, 0 },
+    { ASSIGN, TOML, "# c\na = 1 # one\n", "/a", "2.50", 0, JSONPTR_OK, "# c\na = 2.5 # one\n", 8, 9, 11 },
+    { ASSIGN, TOML, "a = 1 # one\n", "/b", "\"x\\u00e9\"", 0, JSONPTR_OK, "a = 1 # one\nb = \"x\xC3\xA9\"\n", 12, 12, 22 },
+    { ASSIGN, TOML, "[t]\na = 1\n", "/u/b", "true", 0, JSONPTR_OK, "[t]\na = 1\n\n[u]\nb = true\n", 10, 10, 24 },
+    { ASSIGN, TOML, BOM "a = [1, 2]\n", "/a/-", "-3", 0, JSONPTR_OK, BOM "a = [1, 2, -3]\n", 12, 12, 16 },
+    { ASSIGN, TOML, "a = 1\n", "/b", "{\"x\": [1.0, {}], \"y\": \"z\"}", 0, JSONPTR_OK, "a = 1\n\n[b]\nx = [1.0, {}]\ny = \"z\"\n", 6, 6, 33 },
+    { ASSIGN, TOML, "a = 1\n", "/b", "9223372036854775807", 0, JSONPTR_OK, "a = 1\nb = 9223372036854775807\n", 6, 6, 30 },
+    { ASSIGN, TOML, "a = 1\n", "/b", "9223372036854775808", 0, JSONPTR_NOT_TOML_VALUE, NULL, 0, 0, 0 },
+    { ASSIGN, TOML, "a = 1\n", "/b", "{\"c\": [1, null]}", 0, JSONPTR_NOT_TOML_VALUE, NULL, 0, 0, 0 },
+    { ASSIGN, TOML, "a = 1\n", "", "3", 0, JSONPTR_NOT_TOML_VALUE, NULL, 0, 0, JSONPTR_KIND_NO_TOML_TEXT },
+    { ASSIGN, TOML, "a = [1]\n", "/a/2", "3", 0, JSONPTR_NOT_ASSIGNED, NULL, 0, 0, JSONPTR_KIND_INDEX_ABOVE_LENGTH },
+    { ASSIGN, TOML, "a = 1\n", "/b", "2 # two", 0, JSONPTR_NOT_JSON, NULL, 0, 0, 0 },
+    { DELETE, TOML, "a = 1 # one\nb = 2\n", "/a", NULL, 0, JSONPTR_OK, "b = 2\n", 0, 12, 0 },
+    { DELETE, TOML, "a = 1\n", "/b", NULL, 0, JSONPTR_OK, NULL, 0, 0, 0 },
+    { RENAME, TOML, "[a.b]\nx = 1\n[a.c]\n", "/a", "a b", 0, JSONPTR_OK, "[\"a b\".b]\nx = 1\n[\"a b\".c]\n", 1, 14, 22 },
+    { RENAME, TOML, "a = 1\nb = 2\n", "/a", "b", 0, JSONPTR_NOT_RENAMED, NULL, 0, 0, JSONPTR_KIND_KEY_TAKEN },
+    { PATCH, TOML, "a = 1\n", "", "[]", 0, JSONPTR_OTHER_FORMAT, NULL, 0, 0, 0 },
+    { RELAYOUT, JSON, BOM "{\n  \"a\": 1.0,\n  \"b\": [ 2 ]\n}\n", "", "{\"b\":[2,3.50],\"a\":1.00}", 0, JSONPTR_OK, BOM "{\n  \"a\": 1.0,\n  \"b\": [ 2, 3.50 ]\n}\n", 27, 27, 33 },
+    { RELAYOUT, JSON, "[1.0 ]", "", " [1.00]", 0, JSONPTR_OK, "[1.0 ]", 6, 6, 6 },
+    { RELAYOUT, JSON, "[1.0 ]", "", "[1,]", 0, JSONPTR_NOT_JSON, NULL, 0, 0, 0 },
+    { RELAYOUT, JSON, "[1.0 ]", "", "[\"\xff\"]", 0, JSONPTR_NOT_UTF8, NULL, 0, 0, 0 },
+    { RELAYOUT, JSONC, "[1.0 ] // one", "", "[2]", JSONPTR_REFORMAT, JSONPTR_OTHER_FORMAT, NULL, 0, 0, 0 },
+    { RELAYOUT, TOML, "a = 1\n", "", "{\"a\":2}", 0, JSONPTR_OTHER_FORMAT, NULL, 0, 0, 0 },
     { PATCH, JSONC, "[1, // one\n 2]", "", "[{\"op\": \"add\", \"path\": \"/-\", \"value\": 3.0}, {\"op\": \"remove\", \"path\": \"/1\"}]", 0, JSONPTR_OK, "[1, // one\n 3.0]", 12, 13, 15 },
 };
 
@@ -990,6 +1013,8 @@ static jsonptr_status edit_text(jsonptr_text *text, size_t i, bool *found, jsonp
         return jsonptr_text_delete(text, TEXT(pointer), text_edits[i].flags, found, change, error);
     case RENAME:
         return jsonptr_text_rename(text, TEXT(pointer), TEXT(value), text_edits[i].flags, change, error);
+    case RELAYOUT:
+        return jsonptr_text_relayout(text, TEXT(value), text_edits[i].flags, change, error);
     default:
         return jsonptr_text_patch(text, TEXT(value), text_edits[i].flags, change, error);
     }
@@ -1036,7 +1061,9 @@ static const struct {
     { JSON, "[1, // one\n 2]", JSONPTR_NOT_JSON, 0, 4 }, { JSON, "", JSONPTR_NOT_JSON, 0, 0 }, { JSON, "[1,]", JSONPTR_NOT_JSON, 0, 3 },
     { JSONC, "[1,, 2]", JSONPTR_NOT_JSON, 0, 3 }, { JSONC, "/* a */ [1,] // b", JSONPTR_OK, 0, 0 }, { JSONC, "[1] /* b", JSONPTR_NOT_JSON, JSONPTR_KIND_OPEN_COMMENT, 4 },
     { JSONC, BOM "[1] /* b", JSONPTR_NOT_JSON, JSONPTR_KIND_OPEN_COMMENT, 7 }, { JSON, BOM "[x]", JSONPTR_NOT_JSON, 0, 4 }, { JSON, BOM BOM "[1]", JSONPTR_NOT_JSON, 0, 3 },
-    { JSON, "[\"\xff\"]", JSONPTR_NOT_UTF8, 0, 2 }, { JSON, BOM "1", JSONPTR_OK, 0, 0 },
+    { JSON, "[\"\xff\"]", JSONPTR_NOT_UTF8, 0, 2 }, { JSON, BOM "1", JSONPTR_OK, 0, 0 }, { TOML, "", JSONPTR_OK, 0, 0 },
+    { TOML, "a = 1\nb = \n", JSONPTR_NOT_TOML, 0, 10 }, { TOML, BOM "a = 1", JSONPTR_OK, 0, 0 }, { TOML, BOM "a =", JSONPTR_NOT_TOML, 0, 6 },
+    { TOML, "[1]", JSONPTR_OK, 0, 0 }, { TOML, "{\"a\": 1}", JSONPTR_NOT_TOML, 0, 0 }, { TOML, "a = '\xff'", JSONPTR_NOT_UTF8, 0, 5 },
 };
 
 static void check_opening(void) {
@@ -1129,6 +1156,7 @@ static void check_text_handles(void) {
     expect_number("found", "an empty handle", found, true);
     expect_number("rename", "an empty handle", jsonptr_text_rename(&text, "x", 1, "a", 1, 0, NULL, NULL), JSONPTR_NO_DOCUMENT);
     expect_number("patch", "an empty handle", jsonptr_text_patch(&text, "[]", 2, 0, NULL, NULL), JSONPTR_NO_DOCUMENT);
+    expect_number("relayout", "an empty handle", jsonptr_text_relayout(&text, "[]", 2, 0, NULL, NULL), JSONPTR_NO_DOCUMENT);
     text = opened(JSON, "[1.0, 2]");
     expect_number("part", "[1.0, 2]", jsonptr_text_copy(&text, 1, 4, out, sizeof out, &length, NULL), JSONPTR_OK);
     expect_text("part", "[1.0, 2]", out, length, "1.0");
@@ -1156,6 +1184,65 @@ static void check_text_handles(void) {
     expect_message("rename", &error, "rename failed: value is not a member of an object");
     error = (jsonptr_error){ .status = JSONPTR_NOT_IN_PLACE };
     expect_message("not in place", &error, "the edit is possible, but not in place");
+    jsonptr_text_free(&text);
+}
+
+/* Strings, and their JSON texts. */
+static const struct {
+    const char *string, *text;
+} quoted[] = {
+    { "", "\"\"" }, { "a", "\"a\"" }, { "a\"b\\c/d", "\"a\\\"b\\\\c/d\"" }, { "\n\t\x01\x7f", "\"\\n\\t\\u0001\x7f\"" }, { "\xC3\xA9", "\"\xC3\xA9\"" },
+};
+
+static void check_quoting(void) {
+    char out[40];
+    size_t length = 9;
+    jsonptr_error error;
+    for (size_t i = 0; i < COUNT(quoted); i++) {
+        const char *string = quoted[i].string, *text = quoted[i].text;
+        expect_number("status", string, jsonptr_quote(TEXT(string), out, sizeof out, &length, &error), JSONPTR_OK);
+        expect_text("text", string, out, length, text);
+        expect_number("status", string, jsonptr_quote(TEXT(string), out, strlen(text) - 1, &length, &error), JSONPTR_NO_ROOM);
+        expect_number("needed", string, length, strlen(text));
+    }
+    expect_number("status", "\xff", jsonptr_quote(TEXT("a\xff"), out, sizeof out, &length, &error), JSONPTR_NOT_UTF8);
+    expect_number("offset", "\xff", error.offset, 1);
+    expect_number("member", "\xff", error.member, JSONPTR_ARGUMENT_TEXT);
+}
+
+/* What has no JSON text of a TOML text, and the messages of its errors. */
+static void check_toml(void) {
+    jsonptr_text text = opened(TOML, "a = 1 # one\n");
+    jsonptr_error error;
+    char out[100], deep[512];
+    size_t start = 9, end = 9, length = 9;
+    expect_number("locate", "TOML", jsonptr_text_locate(&text, TEXT("/a"), &start, &end, &error), JSONPTR_OTHER_FORMAT);
+    expect_number("start and end", "TOML", start + end, 18);
+    expect_message("TOML", &error, "the call does not work on texts of this format");
+    expect_number("pointer", "TOML", jsonptr_text_pointer_at(&text, 0, out, sizeof out, &length, &error), JSONPTR_OTHER_FORMAT);
+    expect_number("comments", "TOML", jsonptr_text_remove_comments(&text, &error), JSONPTR_OTHER_FORMAT);
+    expect_open_text("TOML", &text, "a = 1 # one\n");
+    expect_number("null", "TOML", jsonptr_text_assign(&text, TEXT("/a"), TEXT("null"), 0, NULL, &error), JSONPTR_NOT_TOML_VALUE);
+    expect_message("null", &error, "the value is null or an integer that TOML has not, or contains one");
+    expect_number("no table", "TOML", jsonptr_text_assign(&text, "", 0, TEXT("[]"), JSONPTR_REFORMAT, NULL, &error), JSONPTR_NOT_TOML_VALUE);
+    expect_message("no table", &error, "the document would have no TOML text");
+    expect_number("not TOML", "TOML", jsonptr_text_open(&text, TOML, TEXT("a"), &error), JSONPTR_NOT_TOML);
+    expect_message("not TOML", &error, "text is not TOML");
+    memset(deep, '[', 80);
+    memset(deep + 80, ']', 80);
+    expect_number("80 arrays", "TOML", jsonptr_text_assign(&text, TEXT("/a"), deep, 160, 0, NULL, &error), JSONPTR_OK);
+    expect_number("81 arrays", "TOML", jsonptr_text_assign(&text, TEXT("/b/c"), deep, 160, 0, NULL, &error), JSONPTR_TOO_DEEP);
+    expect_number("kind", "81 arrays", error.kind, JSONPTR_KIND_TOML_TOO_DEEP);
+    expect_message("81 arrays", &error, "values of the TOML document nest, or would nest, deeper than 80");
+    /* A header of 50 keys and a pair of 50. */
+    for (size_t i = 0; i < 100; i++) {
+        memcpy(deep + 2 * i + (i >= 50 ? 2 : 1), "a.", 2);
+    }
+    deep[0] = '[';
+    memcpy(deep + 100, "]\n", 2);
+    memcpy(deep + 201, "=1", 2);
+    expect_number("100 tables", "TOML", jsonptr_text_open(&text, TOML, deep, 203, &error), JSONPTR_TOO_DEEP);
+    expect_number("kind", "100 tables", error.kind, JSONPTR_KIND_TOML_TOO_DEEP);
     jsonptr_text_free(&text);
 }
 
@@ -1189,5 +1276,7 @@ int main(void) {
     check_opening();
     check_text_places();
     check_text_handles();
+    check_toml();
+    check_quoting();
     return report("tables");
 }
