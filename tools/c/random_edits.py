@@ -52,7 +52,7 @@ def json_case(texts, choose, format):
 
 def toml_case(texts, choose):
     """Returns a random edit of a TOML text."""
-    text = texts.text()
+    text = texts.text().removeprefix("\ufeff")
     tokens, here = [], {}
     try:
         here = tomllib.loads(text)
