@@ -1855,6 +1855,7 @@ MERGES = [
     (("--theirs",), (MERGE_BASE, MERGE_OURS, MERGE_THEIRS), '{\n  "e": [1.0, 2.50],\n  "b/c": {"d": [1, null]}\n}\n'),
     (("--ours", "--comments"), ("[1]", "[1, // one\n2]\n", "[1,]"), "[1, // one\n2]\n"),
     ((), ("{}", '{"a": 1}', '{"b": 0.10}'), '{"a": 1, "b": 0.10}'),
+    ((), ("", '{"a": 1, "c": 2}', '{"b": 0.10, "c": 2}'), '{"a": 1, "c": 2, "b": 0.10}'),
     ((), ('{"a": {"b": 1.10, "c": null}, "d": null}', '{"d": 1, "e": [1.0]}'), '{"e": [1.0], "a": {"b": 1.1}}'),
     ((), ('{"d": 1.00}', '{"d": 1.0}'), '{"d": 1.0}'),
     ((), ("7e0", "{}\n"), "7e0\n"),
@@ -1865,6 +1866,7 @@ NOT_MERGED = [
     ((), ("1e-400", "2", "2"), "jptr: FILE0: the number loses digits: use --lossy\n", 3),
     ((), ("1e-400", "2"), "jptr: FILE0: the number loses digits: use --lossy\n", 3),
     ((), ("{", "2", "2"), "jptr: FILE0: " + OPEN, 3),
+    ((), ("{}", "", "{}"), "jptr: FILE1: the input is empty\n", 3),
     ((), ("2", "{"), "jptr: FILE1: " + OPEN, 3),
 ]
 

@@ -6,7 +6,7 @@ import os
 import subprocess
 import sys
 import tempfile
-from typing import NamedTuple
+from typing import NamedTuple, Optional
 
 from harness import CheckFailed, program
 
@@ -19,11 +19,11 @@ COMMENTED = '{\n  // of the site\n  "size": 12, // in points\n  "theme": "dark"\
 
 
 class Case(NamedTuple):
-    """What a merge is of, and what comes of it."""
+    """What a merge is of, and what comes of it. Without a base, both branches add the file."""
 
     name: str
     file: str
-    base: str
+    base: Optional[str]
     ours: str
     theirs: str
     merged: str
@@ -59,6 +59,10 @@ def cases():
     yield Case("a conflict", "package.json", BASE, changed(BASE, ("1.0.0", "1.1.0")), changed(BASE, ("1.0.0", "2.0.0")),
                changed(BASE, ("1.0.0", "1.1.0")), status=1,
                said='/version\n  base    "1.0.0"\n  ours    "1.1.0"\n  theirs  "2.0.0"\n')
+    yield Case("a file that both branches add", "package.json", None, BASE, changed(BASE, ('  "private": true', '  "license": "MIT"')),
+               changed(BASE, ('  "private": true\n', '  "private": true,\n  "license": "MIT"\n')))
+    yield Case("a conflict in a file that both branches add", "package.json", None, BASE, changed(BASE, ("1.0.0", "2.0.0")), BASE, status=1,
+               said='/version\n  base    (none)\n  ours    "1.0.0"\n  theirs  "2.0.0"\n')
     yield Case("a text that is not JSON", "package.json", BASE, changed(BASE, ("1.0.0", "1.1.0")), changed(BASE, ('"app",', '"app"')),
                changed(BASE, ("1.0.0", "1.1.0")), status=1, said="text is not JSON")
 
@@ -74,9 +78,10 @@ def git(folder, *words, status=0, settings=SETTINGS):
 
 
 def put(folder, case, text):
-    """Writes the text of the case's file, and commits it."""
-    with open(os.path.join(folder, case.file), "w", encoding="utf-8") as file:
-        file.write(text)
+    """Writes the text of the case's file, if there is one, and commits it."""
+    if text is not None:
+        with open(os.path.join(folder, case.file), "w", encoding="utf-8") as file:
+            file.write(text)
     git(folder, "add", ".")
     git(folder, "commit", "--quiet", "--message", case.name)
 

@@ -43,7 +43,7 @@ pub fn merge_patch(
     let document = source.value(alloc)?;
     match merge_patch_edit(alloc, &document, &changes, patch.text(alloc)?) {
         Ok(edit) => put(rt, options, &source, edit),
-        Err(error) => Err(deep(alloc, patch.name, error)),
+        Err(error) => Err(too_deep(alloc, patch.name, error)),
     }
 }
 
@@ -56,7 +56,7 @@ pub fn merge(
     let alloc = rt.alloc();
     check_inputs(alloc, options, merging)?;
     let ours = Document::open(rt, options)?;
-    let base = read_side(rt, options, merging.base)?;
+    let base = read_base(rt, options, merging.base)?;
     let theirs = read_side(rt, options, merging.theirs)?;
     let mut sides = Sides {
         base: base.value(alloc)?,
@@ -113,6 +113,22 @@ fn check_inputs(
     Ok(())
 }
 
+/// Reads the base. An empty one counts as an object without members: git has such a base of a file that both
+/// branches add.
+fn read_base<'a>(
+    rt: &HostRuntime,
+    options: &Options<'_>,
+    file: &'a str,
+) -> Result<Document<'a>, ProgramError> {
+    let base = read_side(rt, options, file)?;
+    if !base.as_bytes().trim_ascii().is_empty() {
+        return Ok(base);
+    }
+    let mut bytes = Vec::new(rt.alloc());
+    bytes.extend_from_slice(b"{}")?;
+    Document::of(rt.alloc(), base.name, FileFormat::Json, bytes)
+}
+
 /// Reads the base, or the second copy.
 fn read_side<'a>(
     rt: &HostRuntime,
@@ -144,12 +160,12 @@ fn edit_of(
 ) -> Result<MergeEdit, ProgramError> {
     match merge_edit(alloc, &sides.base, &sides.ours, &sides.theirs, text) {
         Ok(made) => Ok(made),
-        Err(error) => Err(deep(alloc, name, error)),
+        Err(error) => Err(too_deep(alloc, name, error)),
     }
 }
 
 /// Returns the error of documents that are not merged.
-fn deep(alloc: Global, name: &str, error: Fault<TooDeep>) -> ProgramError {
+fn too_deep(alloc: Global, name: &str, error: Fault<TooDeep>) -> ProgramError {
     match error {
         Fault::Refused(error) => {
             ProgramError::of_message(alloc, BAD_INPUT, name, error.to_string(alloc))

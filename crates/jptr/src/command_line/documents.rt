@@ -113,6 +113,9 @@ A value that differs in all three is a conflict:
 each is shown on standard error with its pointer and the three values, nothing is printed, and the status is 1.
 A member that is missing counts as a value, and is shown as
 .Sq (none) .
+An empty
+.Ar BASE
+counts as an object without members: git has such a file where both branches add one.
 A number that loses digits is an error.
 "#;
 
