@@ -1859,12 +1859,17 @@ MERGES = [
     ((), ('{"a": {"b": 1.10, "c": null}, "d": null}', '{"d": 1, "e": [1.0]}'), '{"e": [1.0], "a": {"b": 1.1}}'),
     ((), ('{"d": 1.00}', '{"d": 1.0}'), '{"d": 1.0}'),
     ((), ("7e0", "{}\n"), "7e0\n"),
+    ((), ('{"id": 2, "b": 1e22}', '{"id": 10000000000000000000001, "c": 10000000000000000000001}'),
+     '{"id": 2, "c": 10000000000000000000001, "b": 1e22}'),
+    ((), ('{"id": 1e22}', '{"id": 10000000000000000000000}'), '{"id": 10000000000000000000000}'),
+    (("--lossy",), ('{"id": 1e22}', '{"id": 10000000000000000000001}'), '{"id": 10000000000000000000001}'),
 ]
 # Merges that fail: flags, the texts of the documents, the error and the status.
 NOT_MERGED = [
     ((), (MERGE_BASE, MERGE_OURS, MERGE_THEIRS), CONFLICT, 1),
     ((), ("1e-400", "2", "2"), "jptr: FILE0: the number loses digits: use --lossy\n", 3),
     ((), ("1e-400", "2"), "jptr: FILE0: the number loses digits: use --lossy\n", 3),
+    ((), ('{"id": [1e22]}', '{"id": [10000000000000000000001]}'), "jptr: FILE1: the number at /id/0 loses digits: use --lossy\n", 3),
     ((), ("{", "2", "2"), "jptr: FILE0: " + OPEN, 3),
     ((), ("{}", "", "{}"), "jptr: FILE1: the input is empty\n", 3),
     ((), ("2", "{"), "jptr: FILE1: " + OPEN, 3),

@@ -1,4 +1,4 @@
-//! Whether a difference keeps the digits of all numbers.
+//! Whether a difference, or a merge patch, keeps the digits of all numbers.
 //!
 //! A number that loses digits is a string in the documents here, which has its decimal value. The patch is
 //! applied to the old one: where the result is not the new one, a number has lost digits.
@@ -11,10 +11,12 @@ use jptr_tasks::patch::operations_of;
 use jptr_tasks::paths::listed_text;
 use json::{Reader, Scratch, Token, Writer};
 use jsonptr::Fault;
+use jsonptr_merge::merge_patched;
 use jsonptr_patch::{Comparison, apply_comparing};
 use jsonptr_text_digits::{find_lost, is_kept};
 use jsonptr_text_paths::listing::Listed;
 use jsonptr_value::{ReadError, if_json};
+use serde_json::Value;
 use std::alloc::{AllocError, Global};
 
 /// Before the decimal value of a number that loses digits.
@@ -45,6 +47,51 @@ pub fn check_difference(
         None => Ok(()),
         Some((pointer, true)) => Err(loss(alloc, after.name, Some(pointer))),
         Some((_pointer, false)) => Err(loss(alloc, before.name, None)),
+    }
+}
+
+/// Fails if a number of the document loses digits where the merge patch has another decimal number that is read
+/// as the same one: the patch with this text, which was made of both, leaves that number.
+pub fn check_merge_patch(
+    alloc: Global,
+    document: &Document<'_>,
+    changes: &Value,
+    patch: &str,
+) -> Result<(), ProgramError> {
+    let text = document.text(alloc)?;
+    if find_lost(alloc, text)?.is_none() {
+        return Ok(());
+    }
+    let Some(old) = if_json(marked(alloc, text))? else {
+        return Ok(());
+    };
+    let (Some(made), Some(new)) = (
+        patched(alloc, old.as_str(), patch)?,
+        merge_patched_text(alloc, old.as_str(), changes)?,
+    ) else {
+        return Err(loss(alloc, document.name, None));
+    };
+    let made = lines_of(alloc, made.as_str())?;
+    let new = lines_of(alloc, new.as_str())?;
+    match first_difference(made.as_str(), new.as_str()) {
+        None => Ok(()),
+        Some((pointer, _)) => Err(loss(alloc, document.name, Some(pointer))),
+    }
+}
+
+/// Returns the text of the document after the merge patch, or `None` if that nests too deep.
+fn merge_patched_text(
+    alloc: Global,
+    document: &str,
+    changes: &Value,
+) -> Result<Option<String>, ProgramError> {
+    let Some(document) = if_json(jsonptr_value::read(alloc, document))? else {
+        return Ok(None);
+    };
+    match merge_patched(alloc, &document, changes) {
+        Ok(document) => Ok(Some(document.to_string(alloc)?)),
+        Err(Fault::Memory(_)) => Err(ProgramError::Memory),
+        Err(Fault::Refused(_)) => Ok(None),
     }
 }
 

@@ -3,6 +3,7 @@
 use crate::changes::{shown_pointer, shown_value};
 use crate::digits::check_text;
 use crate::document::{Document, FileFormat};
+use crate::exact_difference::check_merge_patch;
 use crate::input::is_standard;
 use crate::invocation::{MergeSide, Merging, Options};
 use crate::operands::check_json;
@@ -41,10 +42,15 @@ pub fn merge_patch(
     let changes = patch.value(alloc)?;
     check_digits(alloc, options, &patch)?;
     let document = source.value(alloc)?;
-    match merge_patch_edit(alloc, &document, &changes, patch.text(alloc)?) {
-        Ok(edit) => put(rt, options, &source, edit),
-        Err(error) => Err(too_deep(alloc, patch.name, error)),
+    let edit = match merge_patch_edit(alloc, &document, &changes, patch.text(alloc)?) {
+        Ok(edit) => edit,
+        Err(error) => return Err(too_deep(alloc, patch.name, error)),
+    };
+    if !options.is_lossy {
+        let made = edit.document.to_string(alloc)?;
+        check_merge_patch(alloc, &source, &changes, made.as_str())?;
     }
+    put(rt, options, &source, edit)
 }
 
 /// Merges two changed copies of a document, in the text of the first one.

@@ -398,6 +398,8 @@ as defined in RFC 7396, and prints the document.
 A null removes a member, an object is merged, and any other value replaces the one of the document.
 Only the members that change are edited in the text.
 A member that has the value already stays as it is written, and numbers have the same value if they are the same double.
+A number that loses digits is an error if the merge patch has it,
+or if the merge patch has another decimal number for it that is the same double.
 "#;
 
 /// Declares `merge-patch`.
