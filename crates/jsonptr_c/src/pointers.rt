@@ -2,12 +2,14 @@
 ghost use Rattle.std.specs.Prelude.{◌≡◌, ◌≢◌, ◌≤◌, [], IsUtf8, take, length as list_length};
 ghost use Rattle.jsonptr.specs.Text.{esc};
 ghost use Rattle.jsonptr_c_calls.specs.Failures.{IsNoPointer, IsNoToken, IsNotEscaped, IsNotPopped, IsNotPushed};
+ghost use Rattle.jsonptr_c_calls.specs.Fragments.{IsFragmentFor, IsNotFromFragment, IsNotToFragment, IsPointerIn};
 ghost use Rattle.jsonptr_c_calls.specs.Outcomes.{IsLengthOf, Reports};
 ghost use Rattle.jsonptr_c_calls.specs.ErrorNumbers.{no_error};
 ghost use Rattle.jsonptr_c_calls.specs.Pointers.{HasCount, HasToken, Extends, Shortens};
 ghost use Rattle.jsonptr_c_calls.specs.declared.call_error.CallError.{CallError};
 
 use jsonptr_c_calls::error_numbers::ErrorRecord;
+use jsonptr_c_calls::fragments;
 use jsonptr_c_calls::outcome::{fail, fail_with_length, succeed};
 use jsonptr_c_calls::pointers;
 use std::alloc::Global;
@@ -145,5 +147,59 @@ pub extern "C" fn jsonptrcore_pointer_pop(
             succeed(error)
         }
         Err(call_error) => fail(&call_error, pointer, error),
+    }
+}
+
+/// Copies the pointer of a fragment to the buffer.
+#[unsafe(no_mangle)]
+pub extern "C" fn jsonptrcore_pointer_from_fragment(
+    alloc: Global,
+    fragment: &[u8],
+    out: &mut [u8],
+    length: &mut usize,
+    error: &mut ErrorRecord,
+) -> u32
+    ensures no_error { result ≡ 0 → error.new ≡ no_error }
+    ensures pointer { result ≡ 0 → IsPointerIn fragment.now (take length.new out.new) }
+    ensures fits { result ≡ 0 → length.new ≤ list_length out.new }
+    ensures utf8 { result ≡ 0 → IsUtf8 fragment.now }
+    ensures refused { result ≢ 0 → (e : CallError) × Reports e [] result error.new
+        × IsNotFromFragment fragment.now (list_length out.old) e }
+    ensures output_unchanged { result ≢ 0 → out.new ≡ out.old }
+    ensures length { result ≢ 0 → IsLengthOf error.new length.old length.new }
+{
+    match fragments::from_fragment(alloc, fragment, out) {
+        Ok(copied) => {
+            *length = copied;
+            succeed(error)
+        }
+        Err(call_error) => fail_with_length(&call_error, b"", length, error),
+    }
+}
+
+/// Copies the fragment of a pointer to the buffer.
+#[unsafe(no_mangle)]
+pub extern "C" fn jsonptrcore_pointer_to_fragment(
+    alloc: Global,
+    pointer: &[u8],
+    out: &mut [u8],
+    length: &mut usize,
+    error: &mut ErrorRecord,
+) -> u32
+    ensures no_error { result ≡ 0 → error.new ≡ no_error }
+    ensures fragment { result ≡ 0 → IsFragmentFor pointer.now (take length.new out.new) }
+    ensures fits { result ≡ 0 → length.new ≤ list_length out.new }
+    ensures utf8 { result ≡ 0 → IsUtf8 pointer.now }
+    ensures refused { result ≢ 0 → (e : CallError) × Reports e pointer.now result error.new
+        × IsNotToFragment pointer.now (list_length out.old) e }
+    ensures output_unchanged { result ≢ 0 → out.new ≡ out.old }
+    ensures length { result ≢ 0 → IsLengthOf error.new length.old length.new }
+{
+    match fragments::to_fragment(alloc, pointer, out) {
+        Ok(copied) => {
+            *length = copied;
+            succeed(error)
+        }
+        Err(call_error) => fail_with_length(&call_error, pointer, length, error),
     }
 }

@@ -19,11 +19,13 @@ use Rattle.jsonptr_patch_document.specs.declared.error.PatchDocumentError.{Patch
 use Rattle.jsonptr_patch_document.specs.declared.error.PatchDocumentError.TheVariants as document_error
 use Rattle.jsonptr_text_step.specs.declared.rename.RenameError.{RenameError}
 use Rattle.jsonptr_text_step.specs.declared.rename.RenameError.TheVariants as rename
+use Rattle.jsonptr_fragment.specs.declared.error.FragmentError.{FragmentError}
+use Rattle.jsonptr_fragment.specs.declared.error.FragmentError.TheVariants as fragment_error
 use Rattle.jsonptr_c_calls.specs.declared.error_numbers.TheConstants as number
 use Rattle.jsonptr_c_calls.specs.declared.call_error.Argument.{Argument}
 use Rattle.jsonptr_c_calls.specs.declared.call_error.Argument.TheVariants as argument
 use Rattle.jsonptr_c_calls.specs.declared.call_error.CallError.{CallError}
-use Rattle.jsonptr_c_calls.specs.declared.call_error.CallError.TheVariants.{Memory, NoRoom, NoDocument, NotUtf8, NotJson, NotExact, NotPointer, NoToken, Resolve, NotLocated, NoValue, OtherType, Assign, NotPatch, PatchFailed, TooDeep, InverseTooDeep, TextTooDeep, NotRenamed, OpenComment, NotInPlace, NotToml, TomlTooDeep, NotTomlValue, NoTomlText, OtherFormat}
+use Rattle.jsonptr_c_calls.specs.declared.call_error.CallError.TheVariants.{Memory, NoRoom, NoDocument, NotUtf8, NotJson, NotExact, NotPointer, NoToken, Resolve, NotLocated, NoValue, OtherType, Assign, NotPatch, PatchFailed, TooDeep, InverseTooDeep, TextTooDeep, NotRenamed, OpenComment, NotInPlace, NotToml, TomlTooDeep, NotTomlValue, NoTomlText, OtherFormat, NotFragment}
 use Rattle.jsonptr_c_calls.specs.declared.error_numbers.ErrorRecord.{ErrorRecord}
 
 -- `row status kind member operation position slash offset length`: the record with these numbers
@@ -136,6 +138,23 @@ pointer_row (parse_error.InvalidEncoding offset source) bytes =
     row 0 number.KIND_BAD_ESCAPE 0 0 (slashes_before bytes offset) offset (capped (offset + source.offset))
     (escape_length bytes (capped (offset + source.offset)))
 
+-- `at_offset k offset`: of an error of the kind `k` at this offset
+abbrev pub at_offset : ℕ → ℕ → ErrorRecord
+at_offset k offset = row 0 k 0 0 0 0 offset 0
+
+-- `with_offset offset r`: the record `r` with another offset
+abbrev pub with_offset : ℕ → ErrorRecord → ErrorRecord
+with_offset offset r = row r.status r.kind r.member r.operation r.position r.slash offset r.length
+
+-- `fragment_row e`: why a text is not the fragment of a pointer. The offset is that in the fragment, and the slash that in
+-- the text which the fragment encodes
+abbrev pub fragment_row : FragmentError → ErrorRecord
+fragment_row fragment_error.NoHash = of_kind number.KIND_NO_HASH
+fragment_row (fragment_error.BadByte offset) = at_offset number.KIND_BAD_BYTE offset
+fragment_row (fragment_error.BadEscape offset) = at_offset number.KIND_BAD_PERCENT offset
+fragment_row (fragment_error.NotUtf8 offset) = at_offset number.KIND_ENCODED_NOT_UTF8 offset
+fragment_row (fragment_error.NotPointer offset cause) = with_offset offset (parse_row cause)
+
 -- `rename_kind f`: the kind of the error `f` of a renaming
 abbrev pub rename_kind : RenameError → ℕ
 rename_kind rename.NotThere = number.KIND_NOTHING_THERE
@@ -176,6 +195,7 @@ status_number TomlTooDeep = number.TOO_DEEP
 status_number NotTomlValue = number.NOT_TOML_VALUE
 status_number NoTomlText = number.NOT_TOML_VALUE
 status_number OtherFormat = number.OTHER_FORMAT
+status_number (NotFragment f) = number.NOT_FRAGMENT
 
 -- `fields_of e bytes`: the record of the error `e` of a call with the pointer `bytes`, without its status
 abbrev pub fields_of : CallError → List ℕ → ErrorRecord
@@ -205,6 +225,7 @@ fields_of TomlTooDeep bytes = of_kind number.KIND_TOML_TOO_DEEP
 fields_of NotTomlValue bytes = no_error
 fields_of NoTomlText bytes = of_kind number.KIND_NO_TOML_TEXT
 fields_of OtherFormat bytes = no_error
+fields_of (NotFragment f) bytes = fragment_row f
 
 -- `with_status s r`: the record `r` with the status `s`
 abbrev pub with_status : ℕ → ErrorRecord → ErrorRecord

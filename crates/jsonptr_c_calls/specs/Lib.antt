@@ -24,3 +24,4 @@ pub mod TextHandle
 pub mod Relayouts
 pub mod TextReads
 pub mod TextCalls
+pub mod Fragments

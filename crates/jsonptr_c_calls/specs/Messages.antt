@@ -11,9 +11,11 @@ use Rattle.jsonptr_patch_document.specs.declared.error.PatchDocumentError.{Patch
 use Rattle.jsonptr_patch_document.specs.declared.error.PatchDocumentError.TheVariants as document_error
 use Rattle.jsonptr_text_step.specs.declared.rename.RenameError.{RenameError}
 use Rattle.jsonptr_text_step.specs.declared.rename.RenameError.TheVariants as rename
+use Rattle.jsonptr_fragment.specs.declared.error.FragmentError.{FragmentError}
+use Rattle.jsonptr_fragment.specs.declared.error.FragmentError.TheVariants as fragment_error
 use Rattle.jsonptr_c_calls.specs.declared.error_numbers.TheConstants as number
 use Rattle.jsonptr_c_calls.specs.declared.call_error.CallError.{CallError}
-use Rattle.jsonptr_c_calls.specs.declared.call_error.CallError.TheVariants.{Memory, NoRoom, NoDocument, NotUtf8, NotJson, NotExact, NotPointer, NoToken, Resolve, NotLocated, NoValue, OtherType, Assign, NotPatch, PatchFailed, TooDeep, InverseTooDeep, TextTooDeep, NotRenamed, OpenComment, NotInPlace, NotToml, TomlTooDeep, NotTomlValue, NoTomlText, OtherFormat}
+use Rattle.jsonptr_c_calls.specs.declared.call_error.CallError.TheVariants.{Memory, NoRoom, NoDocument, NotUtf8, NotJson, NotExact, NotPointer, NoToken, Resolve, NotLocated, NoValue, OtherType, Assign, NotPatch, PatchFailed, TooDeep, InverseTooDeep, TextTooDeep, NotRenamed, OpenComment, NotInPlace, NotToml, TomlTooDeep, NotTomlValue, NoTomlText, OtherFormat, NotFragment}
 use Rattle.jsonptr_c_calls.specs.declared.error_numbers.ErrorRecord.{ErrorRecord}
 
 -- `patch_message e`: the message of an operation that fails
@@ -53,6 +55,21 @@ rename_message rename.NotThere = codes "rename failed: pointer resolves to nothi
 rename_message rename.NotAMember = codes "rename failed: value is not a member of an object"
 rename_message rename.KeyTaken = codes "rename failed: another member has the key"
 
+-- `fragment_message f`: the message of a text that is not the fragment of a pointer
+abbrev pub fragment_message : FragmentError → Text
+fragment_message fragment_error.NoHash =
+    codes "not a URI fragment of a JSON Pointer: " ++ codes "does not start with `#`"
+fragment_message (fragment_error.BadByte offset) =
+    codes "not a URI fragment of a JSON Pointer: " ++ codes "a byte that must be percent-encoded at byte "
+    ++ decimal offset
+fragment_message (fragment_error.BadEscape offset) =
+    codes "not a URI fragment of a JSON Pointer: " ++ codes "`%` without two hexadecimal digits at byte "
+    ++ decimal offset
+fragment_message (fragment_error.NotUtf8 offset) =
+    codes "not a URI fragment of a JSON Pointer: " ++ codes "not UTF-8 at byte " ++ decimal offset
+fragment_message (fragment_error.NotPointer offset cause) =
+    codes "not a URI fragment of a JSON Pointer: " ++ parse_message cause ++ codes ", at byte " ++ decimal offset
+
 -- `error_message e`: the message of the error `e`. Of an error of the library it is the text that this displays
 abbrev pub error_message : CallError → Text
 error_message (Memory e) = codes "out of memory"
@@ -82,6 +99,7 @@ error_message TomlTooDeep = codes "values of the TOML document nest, or would ne
 error_message NotTomlValue = codes "the value is null or an integer that TOML has not, or contains one"
 error_message NoTomlText = codes "the document would have no TOML text"
 error_message OtherFormat = codes "the call does not work on texts of this format"
+error_message (NotFragment f) = fragment_message f
 
 -- ---- The same by the numbers of a record
 
@@ -161,6 +179,19 @@ document_message r =
     ++ fault_message r.kind r.slash
     else codes "unknown kind"
 
+-- `fragment_fault r`: why a text is not the fragment of a pointer, by the record `r`
+abbrev pub fragment_fault : ErrorRecord → Text
+fragment_fault r =
+    if r.kind == number.KIND_NO_HASH then codes "does not start with `#`"
+    else if r.kind == number.KIND_BAD_BYTE
+    then codes "a byte that must be percent-encoded at byte " ++ decimal r.offset
+    else if r.kind == number.KIND_BAD_PERCENT
+    then codes "`%` without two hexadecimal digits at byte " ++ decimal r.offset
+    else if r.kind == number.KIND_ENCODED_NOT_UTF8 then codes "not UTF-8 at byte " ++ decimal r.offset
+    else if (r.kind == number.KIND_NO_LEADING_SLASH) || (r.kind == number.KIND_BAD_ESCAPE)
+    then fault_message r.kind r.slash ++ codes ", at byte " ++ decimal r.offset
+    else codes "unknown kind"
+
 -- `message_of r`: the message of the record `r`
 abbrev pub message_of : ErrorRecord → Text
 message_of r =
@@ -170,6 +201,7 @@ message_of r =
     else if r.status == number.NOT_PATCH then codes "not a JSON Patch document: " ++ document_message r
     else if r.status == number.PATCH_FAILED
     then codes "patch failed at operation " ++ decimal r.operation ++ codes ": " ++ fault_message r.kind r.slash
+    else if r.status == number.NOT_FRAGMENT then codes "not a URI fragment of a JSON Pointer: " ++ fragment_fault r
     else if r.status == number.NOT_EXACT
     then codes "the number at offset " ++ decimal r.offset ++ codes " loses digits"
     else if r.status == number.NO_VALUE then codes "no value is at offset " ++ decimal r.offset

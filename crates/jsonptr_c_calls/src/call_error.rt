@@ -3,6 +3,7 @@ ghost use Rattle.std.specs.Prelude.{◌≡◌};
 ghost use Rattle.jsonptr_c_calls.specs.declared.call_error.CallError.TheVariants.{Memory};
 
 use jsonptr::{ParseError, assign, resolve};
+use jsonptr_fragment::FragmentError;
 use jsonptr_patch::FailedOperation;
 use jsonptr_patch_document::PatchDocumentError;
 use jsonptr_text_digits::Lost;
@@ -16,7 +17,7 @@ pub enum Argument {
     Pointer,
     /// A token of a pointer, decoded.
     Token,
-    /// A JSON text.
+    /// A JSON text, or the fragment of a URI.
     Text,
 }
 
@@ -96,6 +97,8 @@ pub enum CallError {
     NoTomlText,
     /// The call does not work on texts of this format.
     OtherFormat,
+    /// A text is not the fragment of a pointer.
+    NotFragment(FragmentError),
 }
 
 impl From<AllocError> for CallError {

@@ -2,10 +2,11 @@
 //! `tools/c/jsonptr.h` defines the same ones.
 ghost use Rattle.std.specs.Prelude.{◌≡◌, ◌==◌, ◌+◌, not, count_by, drop, take};
 ghost use Rattle.std.specs.List.{prefix_len};
-ghost use Rattle.jsonptr_c_calls.specs.ErrorNumbers.{argument_number, assign_row, at_token, escape_length, fault_number, fields_of, member_number, no_error, of_kind, of_operation, parse_row, patch_document_row, patch_row, pointer_row, record_of, rename_kind, resolve_row, row, slashes_before, status_number, token_length};
+ghost use Rattle.jsonptr_c_calls.specs.ErrorNumbers.{argument_number, assign_row, at_token, escape_length, fault_number, fields_of, fragment_row, member_number, no_error, of_kind, of_operation, parse_row, patch_document_row, patch_row, pointer_row, record_of, rename_kind, resolve_row, row, slashes_before, status_number, token_length};
 
 use crate::call_error::{Argument, CallError};
 use jsonptr::{ParseError, assign, resolve};
+use jsonptr_fragment::FragmentError;
 use jsonptr_patch::{PatchError, PatchPointer};
 use jsonptr_patch_document::{Member, PatchDocumentError};
 use jsonptr_text_edit::RenameError;
@@ -56,6 +57,8 @@ pub const NOT_TOML_VALUE: u32 = 20;
 pub const NOT_RENAMED: u32 = 21;
 /// The call does not work on texts of this format.
 pub const OTHER_FORMAT: u32 = 22;
+/// A text is not the fragment of a pointer.
+pub const NOT_FRAGMENT: u32 = 23;
 
 /// A pointer is not empty and does not start with a slash.
 pub const KIND_NO_LEADING_SLASH: u32 = 1;
@@ -105,6 +108,14 @@ pub const KIND_KEY_TAKEN: u32 = 22;
 pub const KIND_TOML_TOO_DEEP: u32 = 23;
 /// The TOML document would have no text, as one that is not a table.
 pub const KIND_NO_TOML_TEXT: u32 = 24;
+/// The fragment does not start with `#`.
+pub const KIND_NO_HASH: u32 = 25;
+/// A byte of the fragment must be percent-encoded.
+pub const KIND_BAD_BYTE: u32 = 26;
+/// A `%` of the fragment is not followed by two hexadecimal digits.
+pub const KIND_BAD_PERCENT: u32 = 27;
+/// The bytes that the fragment encodes are not UTF-8.
+pub const KIND_ENCODED_NOT_UTF8: u32 = 28;
 
 /// The member `op` of an operation.
 pub const MEMBER_OP: u32 = 1;
@@ -118,7 +129,7 @@ pub const MEMBER_VALUE: u32 = 4;
 pub const ARGUMENT_POINTER: u32 = 5;
 /// The token of the call.
 pub const ARGUMENT_TOKEN: u32 = 6;
-/// The JSON text of the call.
+/// The JSON text of the call, or its fragment.
 pub const ARGUMENT_TEXT: u32 = 7;
 
 /// The error of a call. Each field that an error does not have is 0. It displays the message of the
@@ -212,6 +223,7 @@ fn status_number(call_error: &CallError) -> u32
         CallError::NotToml { .. } => NOT_TOML,
         CallError::NotTomlValue | CallError::NoTomlText => NOT_TOML_VALUE,
         CallError::OtherFormat => OTHER_FORMAT,
+        CallError::NotFragment(_) => NOT_FRAGMENT,
     }
 }
 
@@ -255,6 +267,7 @@ fn fields_of(call_error: &CallError, pointer: &[u8]) -> ErrorRecord
             kind: KIND_OPEN_COMMENT,
             ..at_offset(*offset)
         },
+        CallError::NotFragment(error) => fragment_row(error),
         CallError::Memory(_)
         | CallError::NoDocument
         | CallError::NoToken
@@ -274,6 +287,32 @@ fn at_offset(offset: usize) -> ErrorRecord
     ErrorRecord {
         offset: offset as u64,
         ..ErrorRecord::none()
+    }
+}
+
+/// Returns the row of a text that is not the fragment of a pointer. Its offset is that in the
+/// fragment, and its slash that in the text which the fragment encodes.
+fn fragment_row(error: &FragmentError) -> ErrorRecord
+    ensures { result ≡ fragment_row error.now }
+{
+    match error {
+        FragmentError::NoHash => of_kind(KIND_NO_HASH),
+        FragmentError::BadByte { offset } => ErrorRecord {
+            kind: KIND_BAD_BYTE,
+            ..at_offset(*offset)
+        },
+        FragmentError::BadEscape { offset } => ErrorRecord {
+            kind: KIND_BAD_PERCENT,
+            ..at_offset(*offset)
+        },
+        FragmentError::NotUtf8 { offset } => ErrorRecord {
+            kind: KIND_ENCODED_NOT_UTF8,
+            ..at_offset(*offset)
+        },
+        FragmentError::NotPointer { offset, cause } => ErrorRecord {
+            offset: *offset as u64,
+            ..parse_row(cause)
+        },
     }
 }
 

@@ -15,6 +15,7 @@ pub mod depths;
 pub mod documents;
 pub mod edit;
 pub mod error_numbers;
+pub mod fragments;
 mod given;
 pub mod handle;
 pub mod laws;

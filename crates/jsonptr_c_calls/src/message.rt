@@ -1,7 +1,7 @@
 //! The messages of errors, from their numbers.
 ghost use Rattle.std.specs.Prelude.{◌≡◌, ◌≤◌, IfErr, IfOk, OnErr, Some, take, length as list_length};
 ghost use Rattle.jsonptr_c_calls.specs.Failures.{IsNotWritten};
-ghost use Rattle.jsonptr_c_calls.specs.Messages.{fault_message, document_message, fixed_message, member_name, message_of, message_room};
+ghost use Rattle.jsonptr_c_calls.specs.Messages.{fault_message, document_message, fixed_message, fragment_fault, member_name, message_of, message_room};
 
 use crate::buffer::copy_to;
 use crate::call_error::CallError;
@@ -53,6 +53,11 @@ impl fmt::Display for ErrorRecord {
                 let operation = self.operation;
                 write!(f, "patch failed at operation {operation}: {}", Cause(*self))
             }
+            NOT_FRAGMENT => write!(
+                f,
+                "not a URI fragment of a JSON Pointer: {}",
+                FragmentCause(*self)
+            ),
             NOT_EXACT => {
                 let offset = self.offset;
                 write!(f, "the number at offset {offset} loses digits")
@@ -187,6 +192,38 @@ impl fmt::Display for PatchDocumentCause {
                 "member `{member}` of operation {operation}: {}",
                 Cause(self.0)
             ),
+            _ => f.write_str("unknown kind"),
+        }
+    }
+}
+
+/// Why a text is not the fragment of a pointer.
+#[derive(Clone, Copy)]
+struct FragmentCause(ErrorRecord);
+
+impl fmt::Display for FragmentCause {
+    ghost output = { λ cause. Some (fragment_fault cause.0) };
+
+    fn fmt<W: fmt::Write>(&self, f: &mut fmt::Formatter<W>) -> fmt::Result {
+        let offset = self.0.offset;
+        match self.0.kind {
+            KIND_NO_HASH => f.write_str("does not start with `#`"),
+            KIND_BAD_BYTE => {
+                write!(
+                    f,
+                    "a byte that must be percent-encoded at byte {offset}"
+                )
+            }
+            KIND_BAD_PERCENT => {
+                write!(
+                    f,
+                    "`%` without two hexadecimal digits at byte {offset}"
+                )
+            }
+            KIND_ENCODED_NOT_UTF8 => write!(f, "not UTF-8 at byte {offset}"),
+            KIND_NO_LEADING_SLASH | KIND_BAD_ESCAPE => {
+                write!(f, "{}, at byte {offset}", Cause(self.0))
+            }
             _ => f.write_str("unknown kind"),
         }
     }
