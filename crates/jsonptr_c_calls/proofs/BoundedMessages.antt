@@ -4,7 +4,7 @@ use Rattle.std.specs.Prelude.{codes, decimal}
 use Rattle.std.proofs.lemmas.Fmt.{length-decimal-le}
 use Rattle.jsonptr_c_calls.specs.declared.error_numbers.TheConstants as number
 use Rattle.jsonptr_c_calls.specs.declared.error_numbers.ErrorRecord.{ErrorRecord}
-use Rattle.jsonptr_c_calls.specs.Messages.{HasMessageNumbers, fault_message, document_message, fixed_message, member_name, message_of, message_room}
+use Rattle.jsonptr_c_calls.specs.Messages.{HasMessageNumbers, fault_message, document_message, fixed_message, fragment_fault, member_name, message_of, message_room}
 
 -- one of two short texts
 either : (room : ℕ) (b : Bool) (x y : List ℕ) → length x ≤ room → length y ≤ room → length (if b then x else y) ≤ room
@@ -119,21 +119,46 @@ fixed_short status =
 before : (room : ℕ) (x y : List ℕ) → length x + length y ≤ room → length (x ++ y) ≤ room
 before room x y most = let all : length (x ++ y) ≡ length x + length y = length-append x y in omega (arith, all, most)
 
+fragment_short : (r : ErrorRecord) → HasMessageNumbers r → length (fragment_fault r) ≤ 151
+fragment_short r numbers =
+    let offset : length (decimal r.offset) ≤ 20 = digits r.offset numbers.2 in
+    let byte : length (codes "a byte that must be percent-encoded at byte ") ≤ 44 = lit≤ tt in
+    let percent : length (codes "`%` without two hexadecimal digits at byte ") ≤ 43 = lit≤ tt in
+    let utf8 : length (codes "not UTF-8 at byte ") ≤ 18 = lit≤ tt in
+    either 151 (r.kind == number.KIND_NO_HASH) _ _ (lit≤ tt)
+    (either 151 (r.kind == number.KIND_BAD_BYTE) _ _ (before 151 (codes "a byte that must be percent-encoded at byte ") (decimal r.offset) (omega (arith, offset, byte)))
+    (either 151 (r.kind == number.KIND_BAD_PERCENT) _ _ (before 151 (codes "`%` without two hexadecimal digits at byte ") (decimal r.offset) (omega (arith, offset, percent)))
+    (either 151 (r.kind == number.KIND_ENCODED_NOT_UTF8) _ _ (before 151 (codes "not UTF-8 at byte ") (decimal r.offset) (omega (arith, offset, utf8))) (go ((r.kind == number.KIND_NO_LEADING_SLASH) || (r.kind == number.KIND_BAD_ESCAPE)) (parse_short r.kind r.slash numbers.1)))))
+  where
+    go : (b : Bool) → (b ≡ true → length (fault_message r.kind r.slash) ≤ 121) → length (if b then fault_message r.kind r.slash ++ codes ", at byte " ++ decimal r.offset else codes "unknown kind") ≤ 151
+    go true cause =
+        let start = fault_message r.kind r.slash ++ codes ", at byte " in
+        let all : length (start ++ decimal r.offset) ≡ length start + length (decimal r.offset) = length-append start (decimal r.offset) in
+        let one : length start ≡ length (fault_message r.kind r.slash) + length (codes ", at byte ") = length-append (fault_message r.kind r.slash) (codes ", at byte ") in
+        let two : length (fault_message r.kind r.slash) ≤ 121 = cause refl in
+        let three : length (codes ", at byte ") ≤ 10 = lit≤ tt in
+        let four : length (decimal r.offset) ≤ 20 = digits r.offset numbers.2 in
+        omega (arith, all, one, two, three, four)
+    go false cause = lit≤ tt
+
 pub message_short : (r : ErrorRecord) → HasMessageNumbers r → length (message_of r) ≤ message_room
 message_short r fits =
     let cause : length (fault_message r.kind r.slash) ≤ 125 = cause_short r.kind r.slash fits.1 in
     let place : length (codes "patch failed at operation " ++ decimal r.operation ++ codes ": ") ≤ 75 = around 75 (codes "patch failed at operation ") (codes ": ") r.operation fits.0 (lit≤ tt) in
     let document : length (document_message r) ≤ 171 = document_short r fits in
     let start : length (codes "not a JSON Patch document: ") ≤ 27 = lit≤ tt in
+    let hash : length (codes "not a URI fragment of a JSON Pointer: ") ≤ 38 = lit≤ tt in
+    let fragment : length (fragment_fault r) ≤ 151 = fragment_short r fits in
     let at : length (codes "no value is at offset ") ≤ 22 = lit≤ tt in
     let offset : length (decimal r.offset) ≤ 20 = digits r.offset fits.2 in
     either 200 ((r.status == number.NOT_POINTER) || ((r.status == number.NOT_FOUND) || ((r.status == number.NOT_ASSIGNED) || (r.status == number.NOT_RENAMED)))) _ _ (omega (arith, cause))
     (either 200 (r.status == number.NOT_PATCH) _ _ (before 200 (codes "not a JSON Patch document: ") (document_message r) (omega (arith, start, document)))
     (either 200 (r.status == number.PATCH_FAILED) _ _ (before 200 (codes "patch failed at operation " ++ decimal r.operation ++ codes ": ") (fault_message r.kind r.slash) (omega (arith, place, cause)))
+    (either 200 (r.status == number.NOT_FRAGMENT) _ _ (before 200 (codes "not a URI fragment of a JSON Pointer: ") (fragment_fault r) (omega (arith, hash, fragment)))
     (either 200 (r.status == number.NOT_EXACT) _ _ (around 200 (codes "the number at offset ") (codes " loses digits") r.offset fits.2 (lit≤ tt))
     (either 200 (r.status == number.NO_VALUE) _ _ (before 200 (codes "no value is at offset ") (decimal r.offset) (omega (arith, at, offset)))
     (either 200 ((r.status == number.TOO_DEEP) && (r.kind == number.KIND_INVERSE_TOO_DEEP)) _ _ (lit≤ tt)
     (either 200 ((r.status == number.TOO_DEEP) && (r.kind == number.KIND_TEXT_TOO_DEEP)) _ _ (lit≤ tt)
     (either 200 ((r.status == number.TOO_DEEP) && (r.kind == number.KIND_TOML_TOO_DEEP)) _ _ (lit≤ tt)
     (either 200 ((r.status == number.NOT_TOML_VALUE) && (r.kind == number.KIND_NO_TOML_TEXT)) _ _ (lit≤ tt)
-    (either 200 ((r.status == number.NOT_JSON) && (r.kind == number.KIND_OPEN_COMMENT)) _ _ (lit≤ tt) (fixed_short r.status))))))))))
+    (either 200 ((r.status == number.NOT_JSON) && (r.kind == number.KIND_OPEN_COMMENT)) _ _ (lit≤ tt) (fixed_short r.status)))))))))))

@@ -7,6 +7,7 @@ mod NestingLemmas
 mod BoundLemmas
 mod LawLemmas
 mod NotBothLemmas
+mod FragmentLemmas
 mod LocationLemmas
 mod MessageLemmas
 mod BoundedMessages

@@ -8,11 +8,12 @@ use Rattle.jsonptr_patch.specs.declared.operation.PatchError.TheVariants as patc
 use Rattle.jsonptr_patch_document.specs.declared.member.Member.TheVariants as member
 use Rattle.jsonptr_patch_document.specs.declared.error.PatchDocumentError.TheVariants as document_error
 use Rattle.jsonptr_text_step.specs.declared.rename.RenameError.TheVariants as rename
+use Rattle.jsonptr_fragment.specs.declared.error.FragmentError.TheVariants as fragment_error
 use Rattle.jsonptr_c_calls.specs.Messages.{error_message, message_of, patch_message}
 use Rattle.jsonptr_c_calls.specs.ErrorNumbers.{fault_number, patch_row, record_of, with_status}
 use Rattle.jsonptr_c_calls.specs.declared.error_numbers.TheConstants as number
 use Rattle.jsonptr_c_calls.specs.declared.call_error.CallError.{CallError}
-use Rattle.jsonptr_c_calls.specs.declared.call_error.CallError.TheVariants.{Memory, NoRoom, NoDocument, NotUtf8, NotJson, NotExact, NotPointer, NoToken, Resolve, NotLocated, NoValue, OtherType, Assign, NotPatch, PatchFailed, TooDeep, InverseTooDeep, TextTooDeep, NotRenamed, OpenComment, NotInPlace, NotToml, TomlTooDeep, NotTomlValue, NoTomlText, OtherFormat}
+use Rattle.jsonptr_c_calls.specs.declared.call_error.CallError.TheVariants.{Memory, NoRoom, NoDocument, NotUtf8, NotJson, NotExact, NotPointer, NoToken, Resolve, NotLocated, NoValue, OtherType, Assign, NotPatch, PatchFailed, TooDeep, InverseTooDeep, TextTooDeep, NotRenamed, OpenComment, NotInPlace, NotToml, TomlTooDeep, NotTomlValue, NoTomlText, OtherFormat, NotFragment}
 
 -- that of an operation that fails, whatever pointer is at fault
 failed_one : (e : PatchError) (m : ℕ) → message_of (with_status number.PATCH_FAILED (patch_row e m)) ≡ patch_message e
@@ -78,3 +79,9 @@ message_one TomlTooDeep bytes = refl
 message_one NotTomlValue bytes = refl
 message_one NoTomlText bytes = refl
 message_one OtherFormat bytes = refl
+message_one (NotFragment fragment_error.NoHash) bytes = refl
+message_one (NotFragment (fragment_error.BadByte offset)) bytes = refl
+message_one (NotFragment (fragment_error.BadEscape offset)) bytes = refl
+message_one (NotFragment (fragment_error.NotUtf8 offset)) bytes = refl
+message_one (NotFragment (fragment_error.NotPointer offset parse_error.NoLeadingSlash)) bytes = refl
+message_one (NotFragment (fragment_error.NotPointer offset (parse_error.InvalidEncoding slash source))) bytes = refl

@@ -69,7 +69,7 @@ use Rattle.jsonptr_c_calls.proofs.LawLemmas.{no_pointer-parses, tokens_one, no_r
 -- ---- a buffer
 
 -- a buffer that has the result is not too short for it
-fits : (out : List ℕ) (n : ℕ) (s : List ℕ) (e : CallError) → take n out ≡ s → LacksRoom (length s) (length out) e → ⊥
+pub fits : (out : List ℕ) (n : ℕ) (s : List ℕ) (e : CallError) → take n out ≡ s → LacksRoom (length s) (length out) e → ⊥
 fits out n s e is h =
     let short : length out < length s = h.0 in
     let copied : length (take n out) ≡ min n (length out) = length-take n out in

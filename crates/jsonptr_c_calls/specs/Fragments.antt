@@ -1,7 +1,7 @@
 -- Pointers as fragments of URIs (RFC 6901, section 6), and why a call on one fails.
 use Rattle.std.specs.Prelude.{◌≡◌, ◌⊎◌, ℕ, List, IsUtf8, length}
 use Rattle.jsonptr.specs.Text.{Text, text}
-use Rattle.jsonptr_fragment.specs.Fragment.{fragment_of, IsFragmentOf}
+use Rattle.jsonptr_fragment.specs.Fragment.{fragment_of, IsFragment, IsFragmentOf}
 use Rattle.jsonptr_fragment.specs.FragmentError.{IsFragmentErrorOf}
 use Rattle.jsonptr_fragment.specs.declared.error.FragmentError.{FragmentError}
 use Rattle.jsonptr_c_calls.specs.Failures.{IsNoPointer, IsNotUtf8, IsOutOfMemory, LacksRoom}
@@ -10,7 +10,7 @@ use Rattle.jsonptr_c_calls.specs.declared.call_error.Argument.TheVariants as arg
 use Rattle.jsonptr_c_calls.specs.declared.call_error.CallError.{CallError}
 use Rattle.jsonptr_c_calls.specs.declared.call_error.CallError.TheVariants.{NotFragment}
 
--- `IsPointerIn fragment pointer`: the text `fragment` is the fragment of the pointer with the text `pointer`
+-- `IsPointerIn fragment pointer`: the text `fragment` is a fragment of the pointer with the text `pointer`, which it encodes
 abbrev pub IsPointerIn : List ℕ → List ℕ → Type 0
 IsPointerIn fragment pointer = (tokens : List Text) × IsFragmentOf fragment tokens × HasTokens pointer tokens
 
@@ -19,16 +19,25 @@ IsPointerIn fragment pointer = (tokens : List Text) × IsFragmentOf fragment tok
 abbrev pub IsFragmentFor : List ℕ → List ℕ → Type 0
 IsFragmentFor pointer fragment = (tokens : List Text) × HasTokens pointer tokens × (fragment ≡ fragment_of tokens)
 
+-- `SameError e f`: the errors `e` and `f` are the same, unless one of them is a failed allocation
+abbrev pub SameError : CallError → CallError → Type 0
+SameError e f = IsOutOfMemory e ⊎ (IsOutOfMemory f ⊎ (e ≡ f))
+
 -- `IsBadFragment fragment e`: the bytes `fragment` are UTF-8 but not the fragment of a pointer, and `e` reports why
 abbrev pub IsBadFragment : List ℕ → CallError → Type 0
 IsBadFragment fragment e =
     (fault : FragmentError) × IsUtf8 fragment × IsFragmentErrorOf fragment fault × (e ≡ NotFragment fault)
 
+-- `IsUndecoded fragment e`: an allocation failed, which `e` reports, and the text `fragment` has the form of a fragment.
+-- For a text without that form nothing is allocated
+abbrev pub IsUndecoded : List ℕ → CallError → Type 0
+IsUndecoded fragment e = IsOutOfMemory e × ¬ (¬ (IsFragment fragment))
+
 -- `IsNoFragment fragment e`: the bytes `fragment` are not the fragment of a pointer, or an allocation failed, and `e`
 -- reports that
 abbrev pub IsNoFragment : List ℕ → CallError → Type 0
 IsNoFragment fragment e =
-    IsNotUtf8 argument.Text fragment e ⊎ (IsOutOfMemory e ⊎ IsBadFragment fragment e)
+    IsNotUtf8 argument.Text fragment e ⊎ (IsUndecoded fragment e ⊎ IsBadFragment fragment e)
 
 -- `IsNotFromFragment fragment room e`: the pointer in the fragment `fragment` cannot be copied to `room` bytes, and `e`
 -- reports why

@@ -149,7 +149,8 @@ pub struct ErrorRecord {
     pub operation: u64,
     /// The position of the token at fault, from 0.
     pub position: u64,
-    /// The offset of the slash before that token, in bytes.
+    /// The offset of the slash before that token, in bytes. Of a fragment it is the offset in the text
+    /// that the fragment encodes.
     pub slash: u64,
     /// The offset of the first byte at fault.
     pub offset: u64,

@@ -19,7 +19,8 @@ use std::alloc::Global;
 /// - [`CallError::NotUtf8`] if the bytes are not UTF-8.
 /// - [`CallError::NotFragment`] if they are not the fragment of a pointer.
 /// - [`CallError::NoRoom`] if the buffer is shorter than the pointer.
-/// - [`CallError::Memory`] if an allocation fails.
+/// - [`CallError::Memory`] if an allocation fails. A byte that a fragment may not have is found before
+///   anything is allocated.
 ///
 /// # Examples
 ///
@@ -30,11 +31,7 @@ use std::alloc::Global;
 /// let space = from_fragment(alloc, b"#/a b", &mut out);
 /// assert!(rt; matches!(space, Err(CallError::NotFragment(_))));
 /// ```
-pub fn from_fragment(
-    alloc: Global,
-    fragment: &[u8],
-    out: &mut [u8],
-) -> Result<usize, CallError>
+pub fn from_fragment(alloc: Global, fragment: &[u8], out: &mut [u8]) -> Result<usize, CallError>
     ensures pointer { IfOk result (λ n. IsPointerIn fragment.now (take n out.new)) }
     ensures fits { IfOk result (λ n. n ≤ list_length out.new) }
     ensures utf8 { OnOk result (IsUtf8 fragment.now) }

@@ -13,6 +13,7 @@ ghost use Rattle.jsonptr_text_digits.specs.Digits.{KeepsDigits};
 ghost use Rattle.jsonptr_text_digits.specs.declared.lost.Lost.{Lost};
 ghost use Rattle.jsonptr_c_calls.specs.Exactness.{IsNotParsedBy, IsNotParsedExactly, IsNotPointedTo, LacksPointerOfFloat, LacksPointerOfLost, LacksPointerOfNumber, LosesDigitsOfFloat};
 ghost use Rattle.jsonptr_c_calls.specs.Failures.{FailsOnHandle, IsNoPointer, IsNoToken, IsNotEscaped, IsNotParsed, IsNotPopped, IsNotPrinted, IsNotPushed, IsNotRead, IsNotWritten, IsOutOfMemory, IsTooShort, LacksRoomForFloat, SameStatus, Unfound};
+ghost use Rattle.jsonptr_c_calls.specs.Fragments.{IsFragmentFor, IsNotFromFragment, IsNotToFragment, IsPointerIn, SameError};
 ghost use Rattle.jsonptr_c_calls.specs.InTexts.{FindsTextIn, IsNotPrintedFrom, LacksRoomForFloatIn};
 ghost use Rattle.jsonptr_c_calls.specs.Locations.{IsNotLocated, IsNotPointedAt, LacksLocation, LacksPointerAt, LocatesInText, PointsAt};
 ghost use Rattle.jsonptr_c_calls.specs.Messages.{HasMessageNumbers, error_message, message_of, message_room};
@@ -28,6 +29,7 @@ ghost use Rattle.jsonptr_c_calls.specs.declared.node.NodeInfo.{NodeInfo};
 ghost use Rattle.jsonptr_text_resolve.specs.declared.format.Format.{Format};
 
 use jsonptr::laws::parse_law;
+use jsonptr_fragment::laws::{fragment_error_law, fragment_law};
 use jsonptr_patch::laws::patch::comparing_patch_law;
 use jsonptr_patch_document::laws::{inverse_depth_law, patch_document_law};
 
@@ -40,7 +42,8 @@ pub fn message_law()
 {}
 
 /// States that what a call is passed fixes the status with which it fails, except that an allocation
-/// can fail. For `patch` and `patch_with_inverse` it is stated of their text and of its operations, apart.
+/// can fail. Of the calls on fragments it fixes the whole error.
+/// For `patch` and `patch_with_inverse` it is stated of their text and of its operations, apart.
 /// If an operation fails, the whole error is fixed. Of `lost_number`, `patch_with_inverse` and `pointer_at` a
 /// buffer that is too short is left out, and `diff` and `message` as a whole.
 pub fn one_error_law()
@@ -54,6 +57,10 @@ pub fn one_error_law()
         → IsNotPushed n buffer token e → IsNotPushed n buffer token f → SameStatus e f }
     ensures pop { (bytes : List ℕ) (e f : CallError)
         → IsNotPopped bytes e → IsNotPopped bytes f → SameStatus e f }
+    ensures from_fragment { (fragment : List ℕ) (room : ℕ) (e f : CallError)
+        → IsNotFromFragment fragment room e → IsNotFromFragment fragment room f → SameError e f }
+    ensures to_fragment { (pointer : List ℕ) (room : ℕ) (e f : CallError)
+        → IsNotToFragment pointer room e → IsNotToFragment pointer room f → SameError e f }
     ensures parse { (text : List ℕ) (e f : CallError)
         → IsNotParsed text e → IsNotParsed text f → SameStatus e f }
     ensures parse_exactly { (text : List ℕ) (e f : CallError)
@@ -92,6 +99,8 @@ pub fn one_error_law()
         → LacksLocation text tokens e → LacksLocation text tokens f → SameStatus e f }
 {
     parse_law();
+    fragment_law();
+    fragment_error_law();
     comparing_patch_law();
 }
 
@@ -126,6 +135,12 @@ pub fn not_both_law()
     ensures pop { (pointer : List ℕ) (n : ℕ) (e : CallError)
         → IsUtf8 pointer → Shortens pointer n
         → IsNotPopped pointer e → ⊥ }
+    ensures from_fragment { (fragment out : List ℕ) (n : ℕ) (e : CallError)
+        → IsUtf8 fragment → IsPointerIn fragment (take n out)
+        → IsNotFromFragment fragment (length out) e → IsOutOfMemory e }
+    ensures to_fragment { (pointer out : List ℕ) (n : ℕ) (e : CallError)
+        → IsUtf8 pointer → IsFragmentFor pointer (take n out)
+        → IsNotToFragment pointer (length out) e → IsOutOfMemory e }
     ensures parse { (text : List ℕ) (document : Handle) (e : CallError)
         → IsUtf8 text → ReadsInto text document
         → IsNotParsed text e → IsOutOfMemory e }
@@ -190,6 +205,8 @@ pub fn not_both_law()
         → IsNotWritten (message_of r) (length out) e → IsOutOfMemory e }
 {
     parse_law();
+    fragment_law();
+    fragment_error_law();
     patch_document_law();
     inverse_depth_law();
     comparing_patch_law();

@@ -208,18 +208,8 @@ impl fmt::Display for FragmentCause {
         let offset = self.0.offset;
         match self.0.kind {
             KIND_NO_HASH => f.write_str("does not start with `#`"),
-            KIND_BAD_BYTE => {
-                write!(
-                    f,
-                    "a byte that must be percent-encoded at byte {offset}"
-                )
-            }
-            KIND_BAD_PERCENT => {
-                write!(
-                    f,
-                    "`%` without two hexadecimal digits at byte {offset}"
-                )
-            }
+            KIND_BAD_BYTE => { write!(f, "a byte that must be percent-encoded at byte {offset}") }
+            KIND_BAD_PERCENT => { write!(f, "`%` without two hexadecimal digits at byte {offset}") }
             KIND_ENCODED_NOT_UTF8 => write!(f, "not UTF-8 at byte {offset}"),
             KIND_NO_LEADING_SLASH | KIND_BAD_ESCAPE => {
                 write!(f, "{}, at byte {offset}", Cause(self.0))

@@ -1,5 +1,6 @@
 use Rattle.jsonptr_patch.specs.declared.comparison.Comparison.TheVariants.{Numeric}
 use Rattle.jsonptr_c_calls.specs.Messages.{message_of}
+use Rattle.jsonptr_c_calls.proofs.FragmentLemmas.{from_fragment, to_fragment}
 use Rattle.jsonptr_c_calls.proofs.NotBothLemmas.{not_counted, no_token, not_escaped, not_pushed, not_popped, not_parsed, not_parsed_exactly, not_parsed_by, not_printed, not_read, not_described, not_assigned, not_deleted, not_applied, not_inverted, not_compared, not_printed_from, not_pointed_to, none_lost, not_located, not_pointed_at, not_written}
 use Rattle.jsonptr_c_calls.proofs.laws.not_both_law.Goals as goal
 
@@ -17,6 +18,12 @@ returns-clause-push c = not_pushed c.parse_law.ensures.not_both
 
 pub returns-clause-pop : goal.returns-clause-pop
 returns-clause-pop c = not_popped c.parse_law.ensures.not_both
+
+pub returns-clause-from_fragment : goal.returns-clause-from_fragment
+returns-clause-from_fragment c = from_fragment c.fragment_law.ensures.one_pointer c.fragment_error_law.ensures.not_both
+
+pub returns-clause-to_fragment : goal.returns-clause-to_fragment
+returns-clause-to_fragment c = to_fragment c.parse_law.ensures.not_both
 
 pub returns-clause-parse : goal.returns-clause-parse
 returns-clause-parse c = not_parsed

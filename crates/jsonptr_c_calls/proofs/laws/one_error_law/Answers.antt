@@ -1,4 +1,5 @@
 use Rattle.jsonptr_patch.specs.declared.comparison.Comparison.TheVariants.{Numeric}
+use Rattle.jsonptr_c_calls.proofs.FragmentLemmas.{not_from_fragment, not_to_fragment}
 use Rattle.jsonptr_c_calls.proofs.LawLemmas.{no_pointers, no_tokens, not_escaped, not_pushed, not_popped, not_parsed, not_parsed_exactly, pointer_lacked, not_printed_in, not_read_in, unfound_in, not_assigned_in, not_deleted_in, not_patch, not_applied, not_patched, failed_one, not_printed_from, not_located, lacks_location}
 use Rattle.jsonptr_c_calls.proofs.laws.one_error_law.Goals as goal
 
@@ -16,6 +17,12 @@ returns-clause-push c = not_pushed c.parse_law.ensures.not_both
 
 pub returns-clause-pop : goal.returns-clause-pop
 returns-clause-pop c = not_popped c.parse_law.ensures.not_both
+
+pub returns-clause-from_fragment : goal.returns-clause-from_fragment
+returns-clause-from_fragment c = not_from_fragment c.fragment_law.ensures.one_pointer c.fragment_error_law.ensures.not_both c.fragment_error_law.ensures.one_error
+
+pub returns-clause-to_fragment : goal.returns-clause-to_fragment
+returns-clause-to_fragment c = not_to_fragment c.parse_law.ensures.not_both c.parse_law.ensures.one
 
 pub returns-clause-parse : goal.returns-clause-parse
 returns-clause-parse c = not_parsed
