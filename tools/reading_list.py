@@ -93,6 +93,7 @@ OTHERS = {
     "a file that is replaced": [("jptr_tasks/src/replacement.rt", ["replace"])],
     "calls for C": [
         ("jsonptr_c_calls/src/pointers.rt", ["count", "token", "escape", "push", "pop"]),
+        ("jsonptr_c_calls/src/fragments.rt", ["from_fragment", "to_fragment"]),
         ("jsonptr_c_calls/src/documents.rt", [
             "parse", "parse_exactly", "free", "get", "string", "node", "assign", "delete", "patch", "patch_with_inverse",
             "diff",
