@@ -7,6 +7,8 @@
 
 mod documents;
 mod errors;
+mod keys;
 mod locations;
 mod pointers;
+mod setters;
 mod text_edits;

@@ -12,6 +12,7 @@ use Rattle.jsonptr_fragment.specs.declared.error.FragmentError.TheVariants as fr
 use Rattle.jsonptr_c_calls.specs.Messages.{error_message, message_of, patch_message}
 use Rattle.jsonptr_c_calls.specs.ErrorNumbers.{fault_number, patch_row, record_of, with_status}
 use Rattle.jsonptr_c_calls.specs.declared.error_numbers.TheConstants as number
+use Rattle.jsonptr_c_calls.specs.declared.call_error.CallError.TheVariants.{NotFinite}
 use Rattle.jsonptr_c_calls.specs.declared.call_error.CallError.{CallError}
 use Rattle.jsonptr_c_calls.specs.declared.call_error.CallError.TheVariants.{Memory, NoRoom, NoDocument, NotUtf8, NotJson, NotExact, NotPointer, NoToken, Resolve, NotLocated, NoValue, OtherType, Assign, NotPatch, PatchFailed, TooDeep, InverseTooDeep, TextTooDeep, NotRenamed, OpenComment, NotInPlace, NotToml, TomlTooDeep, NotTomlValue, NoTomlText, OtherFormat, NotFragment}
 
@@ -44,6 +45,7 @@ message_one (Resolve (resolve_error.Unreachable position offset)) bytes = refl
 message_one NotLocated bytes = refl
 message_one (NoValue offset) bytes = refl
 message_one OtherType bytes = refl
+message_one NotFinite bytes = refl
 message_one (Assign (assign_error.FailedToParseIndex position offset source)) bytes = refl
 message_one (Assign (assign_error.OutOfBounds position offset source)) bytes = refl
 message_one (NotPatch document_error.NotArray) bytes = refl

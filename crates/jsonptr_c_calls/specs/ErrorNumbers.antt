@@ -24,6 +24,7 @@ use Rattle.jsonptr_fragment.specs.declared.error.FragmentError.TheVariants as fr
 use Rattle.jsonptr_c_calls.specs.declared.error_numbers.TheConstants as number
 use Rattle.jsonptr_c_calls.specs.declared.call_error.Argument.{Argument}
 use Rattle.jsonptr_c_calls.specs.declared.call_error.Argument.TheVariants as argument
+use Rattle.jsonptr_c_calls.specs.declared.call_error.CallError.TheVariants.{NotFinite}
 use Rattle.jsonptr_c_calls.specs.declared.call_error.CallError.{CallError}
 use Rattle.jsonptr_c_calls.specs.declared.call_error.CallError.TheVariants.{Memory, NoRoom, NoDocument, NotUtf8, NotJson, NotExact, NotPointer, NoToken, Resolve, NotLocated, NoValue, OtherType, Assign, NotPatch, PatchFailed, TooDeep, InverseTooDeep, TextTooDeep, NotRenamed, OpenComment, NotInPlace, NotToml, TomlTooDeep, NotTomlValue, NoTomlText, OtherFormat, NotFragment}
 use Rattle.jsonptr_c_calls.specs.declared.error_numbers.ErrorRecord.{ErrorRecord}
@@ -181,6 +182,7 @@ status_number (Resolve e) = number.NOT_FOUND
 status_number NotLocated = number.NOT_LOCATED
 status_number (NoValue offset) = number.NO_VALUE
 status_number OtherType = number.OTHER_TYPE
+status_number NotFinite = number.BAD_ARGUMENT
 status_number (Assign e) = number.NOT_ASSIGNED
 status_number (NotPatch e) = number.NOT_PATCH
 status_number (PatchFailed f) = number.PATCH_FAILED
@@ -211,6 +213,7 @@ fields_of (Resolve e) bytes = with_length (token_length bytes (resolve_offset_of
 fields_of NotLocated bytes = no_error
 fields_of (NoValue offset) bytes = row 0 0 0 0 0 0 offset 0
 fields_of OtherType bytes = no_error
+fields_of NotFinite bytes = no_error
 fields_of (Assign e) bytes = with_length (token_length bytes (assign_offset_of e)) (assign_row e)
 fields_of (NotPatch e) bytes = patch_document_row e
 fields_of (PatchFailed f) bytes = patch_row f.error (fault_number f.pointer)

@@ -8,6 +8,8 @@ pub mod Values
 pub mod NodeTypes
 pub mod Nodes
 pub mod Editing
+pub mod Setters
+pub mod Keys
 pub mod InTexts
 pub mod Locations
 pub mod Exactness

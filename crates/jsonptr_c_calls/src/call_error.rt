@@ -62,6 +62,8 @@ pub enum CallError {
     },
     /// A value is of another type than the call reads.
     OtherType,
+    /// A number is NaN or infinite, which no JSON number is.
+    NotFinite,
     /// The document could nest deeper than 10,127: a pointer has more than 10,000 tokens, or the operations
     /// of a patch can lead that deep.
     TooDeep,

@@ -4,13 +4,14 @@ ghost use Rattle.serde_json.specs.Read.{read as read_text};
 ghost use Rattle.serde_json.specs.View.{view};
 ghost use Rattle.serde_json.specs.declared.value.Value.{Value as JsonValue};
 ghost use Rattle.jsonptr_c_calls.specs.Handle.{Holds, IsEmpty, Keeps};
-ghost use Rattle.jsonptr_c_calls.specs.Depths.{IsBounded};
+ghost use Rattle.jsonptr_c_calls.specs.Depths.{IsBounded, IsParsed};
 ghost use Rattle.jsonptr_text_digits.specs.Digits.{KeepsDigits};
 ghost use Rattle.jsonptr_c_calls.specs.Exactness.{IsNotParsedExactly};
 ghost use Rattle.jsonptr_c_calls.specs.Editing.{AssignsAtPointer, DeletesAtPointer, IsNotDeleted, IsTextNotAssigned};
 ghost use Rattle.jsonptr_c_calls.specs.Failures.{FailsOnHandle, IsNotParsed, IsNotPrinted, IsNotRead, LacksRoom, Unfound};
 ghost use Rattle.jsonptr_c_calls.specs.Nodes.{FindsNode};
 ghost use Rattle.jsonptr_c_calls.specs.Patches.{AppliesText, AppliesWithInverse, IsDiffText, IsNotAppliedWithInverse, IsNotApplied, IsNotCompared, IsNotPatchText};
+ghost use Rattle.jsonptr_c_calls.specs.Setters.{AssignsInHandle, IsValueNotAssigned};
 ghost use Rattle.jsonptr_c_calls.specs.Values.{Changes, FindsTextOf, FindsString, HoldsWith, ReadsInto};
 
 use crate::call_error::CallError;
@@ -214,12 +215,12 @@ pub fn node(alloc: Global, document: &mut Handle, pointer: &[u8]) -> Result<Node
 }
 
 /// Assigns the value that the text is at the location that the pointer identifies, by
-/// [`edit::assign`].
+/// [`assign_value`].
 ///
 /// # Errors
 ///
 /// - [`CallError::NotUtf8`] and [`CallError::NotJson`] for the text, which is read first.
-/// - [`CallError::NoDocument`], and those of [`edit::assign`].
+/// - Those of [`assign_value`].
 ///
 /// The document is unchanged.
 ///
@@ -250,12 +251,45 @@ pub fn assign(
     ensures refused { IfErr result (IsTextNotAssigned text.now document.old pointer.now) }
     ensures unchanged { OnErr result (Keeps document.old document.new) }
 {
-    let assigned = read(alloc, text)?;
-    let Some(mut value) = document.take(alloc) else {
+    assign_value(alloc, document, pointer, read(alloc, text)?)
+}
+
+/// Assigns the value at the location that the pointer identifies, by [`edit::assign`].
+///
+/// # Errors
+///
+/// [`CallError::NoDocument`], and those of [`edit::assign`]. The document is unchanged.
+///
+/// # Examples
+///
+/// ```rust
+/// let mut document = Handle::empty();
+/// assert!(rt; documents::parse(alloc, &mut document, b"{}").is_ok());
+/// let value = Value::from_str(alloc, "[1, 2]")?;
+/// assert!(rt; documents::assign_value(alloc, &mut document, b"/a", value).is_ok());
+/// let node = documents::node(alloc, &mut document, b"/a").ok().ok_or("a value")?;
+/// assert_eq!(rt; (node.node_type, node.length), (ARRAY, 2));
+/// documents::free(alloc, &mut document);
+/// ```
+pub fn assign_value(
+    alloc: Global,
+    document: &mut Handle,
+    pointer: &[u8],
+    value: Value,
+) -> Result<(), CallError>
+    ensures assigned { OnOk result
+        (AssignsInHandle document.old pointer.now (view value) document.new) }
+    ensures bounded { IfOk result (λ _. IsParsed (view value)
+        → Changes document.old (λ d n. IsBounded d → IsBounded n) document.new) }
+    ensures utf8 { OnOk result (IsUtf8 pointer.now) }
+    ensures refused { IfErr result (IsValueNotAssigned document.old pointer.now) }
+    ensures unchanged { OnErr result (Keeps document.old document.new) }
+{
+    let Some(mut root) = document.take(alloc) else {
         return Err(CallError::NoDocument);
     };
-    let outcome = edit::assign(alloc, &mut value, pointer, assigned);
-    document.put(value);
+    let outcome = edit::assign(alloc, &mut root, pointer, value);
+    document.put(root);
     outcome
 }
 

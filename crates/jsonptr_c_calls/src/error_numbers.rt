@@ -17,7 +17,7 @@ pub const OK: u32 = 0;
 pub const NO_MEMORY: u32 = 1;
 /// The buffer is shorter than the result.
 pub const NO_ROOM: u32 = 2;
-/// An argument cannot be used. Only the layer in C has this status, which checks arguments.
+/// An argument cannot be used: a number is not finite, or the layer in C, which checks arguments, says so.
 pub const BAD_ARGUMENT: u32 = 3;
 /// The handle holds no document.
 pub const NO_DOCUMENT: u32 = 4;
@@ -211,6 +211,7 @@ fn status_number(call_error: &CallError) -> u32
         CallError::NotLocated => NOT_LOCATED,
         CallError::NoValue { .. } => NO_VALUE,
         CallError::OtherType => OTHER_TYPE,
+        CallError::NotFinite => BAD_ARGUMENT,
         CallError::Assign(_) => NOT_ASSIGNED,
         CallError::NotPatch(_) => NOT_PATCH,
         CallError::PatchFailed(_) => PATCH_FAILED,
@@ -274,6 +275,7 @@ fn fields_of(call_error: &CallError, pointer: &[u8]) -> ErrorRecord
         | CallError::NoToken
         | CallError::NotLocated
         | CallError::OtherType
+        | CallError::NotFinite
         | CallError::TooDeep
         | CallError::NotInPlace
         | CallError::NotTomlValue

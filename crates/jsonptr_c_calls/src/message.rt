@@ -92,8 +92,9 @@ fn fixed_message(status: u32) -> &'static str
         OK => "no error",
         NO_MEMORY => "out of memory",
         NO_ROOM => "the buffer is too short",
-        BAD_ARGUMENT =>
-            "an argument is NULL or too long, a flag is unknown, or one document is passed twice",
+        BAD_ARGUMENT => {
+            "an argument is NULL or too long, a flag is unknown, one document is passed twice, or a number is not finite"
+        }
         NO_DOCUMENT => "the handle holds no document",
         NOT_UTF8 => "text is not UTF-8",
         NOT_JSON => "text is not JSON",
