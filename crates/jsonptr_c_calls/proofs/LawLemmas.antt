@@ -42,13 +42,13 @@ use Rattle.jsonptr_c_calls.specs.Depths.{max_levels, StaysShallow}
 pub is_document : (d : Data) → IsDocument (nodes d)
 is_document d = (map_of-IsTree (content d), map_of-finite (content d))
 
-same : (e f x y : CallError) → e ≡ x → f ≡ y → status_number x ≡ status_number y → SameStatus e f
+pub same : (e f x y : CallError) → e ≡ x → f ≡ y → status_number x ≡ status_number y → SameStatus e f
 same e f x y p q s = inr (inr (ap status_number p ∙ s ∙ sym (ap status_number q)))
 
-rooms : (e f : CallError) (n m room : ℕ) → LacksRoom n room e → LacksRoom m room f → SameStatus e f
+pub rooms : (e f : CallError) (n m room : ℕ) → LacksRoom n room e → LacksRoom m room f → SameStatus e f
 rooms e f n m room h k = same e f (NoRoom n) (NoRoom m) h.1 k.1 refl
 
-not_utf8 : (a : Argument) (bytes : List ℕ) (e f : CallError) → IsNotUtf8 a bytes e → IsNotUtf8 a bytes f → SameStatus e f
+pub not_utf8 : (a : Argument) (bytes : List ℕ) (e f : CallError) → IsNotUtf8 a bytes e → IsNotUtf8 a bytes f → SameStatus e f
 not_utf8 a bytes e f h k = same e f (NotUtf8 a _) (NotUtf8 a _) h.1 k.1 refl
 
 pub tokens_one : (bytes : List ℕ) (ts us : List Text) → ParsesTo bytes ts → ParsesTo bytes us → ts ≡ us
@@ -97,7 +97,7 @@ pointer_lacked lost room e f (inr h) (inl k) = absurd (let no : None ≡ Some h.
 pointer_lacked lost room e f (inr h) (inr k) = rooms e f _ _ room h.2 k.2
 
 -- what fails on the document in a handle
-on_document : (d : Handle) (P : Value → CallError → Type 0) (e f : CallError) → ((v : Value) → P v e → P v f → SameStatus e f) → FailsOnHandle d (λ v. P v e) e → FailsOnHandle d (λ v. P v f) f → SameStatus e f
+pub on_document : (d : Handle) (P : Value → CallError → Type 0) (e f : CallError) → ((v : Value) → P v e → P v f → SameStatus e f) → FailsOnHandle d (λ v. P v e) e → FailsOnHandle d (λ v. P v f) f → SameStatus e f
 on_document d P e f one (inl h) (inl k) = same e f NoDocument NoDocument h.0 k.0 refl
 on_document d P e f one (inl h) (inr k) = absurd (false≢true (sym h.1 ∙ k.1.0))
 on_document d P e f one (inr h) (inl k) = absurd (false≢true (sym k.1 ∙ h.1.0))
@@ -217,7 +217,7 @@ module _ (not_both : (s : Text) (e : ParseError) → IsPointer s → IsParseErro
   refused_at d ts e f (inr h) (inl k) = absurd (let short : length ts ≤ max_levels = h.1 in omega (arith, k.0, short))
   refused_at d ts e f (inr h) (inr k) = same e f (Assign h.0) (Assign k.0) h.3 k.3 refl
 
-  not_assigned : (d : Data) (bytes : List ℕ) (e f : CallError) → IsNotAssigned d bytes e → IsNotAssigned d bytes f → SameStatus e f
+  pub not_assigned : (d : Data) (bytes : List ℕ) (e f : CallError) → IsNotAssigned d bytes e → IsNotAssigned d bytes f → SameStatus e f
   not_assigned d bytes e f (inr (inl h)) k = inl h
   not_assigned d bytes e f (inl h) (inr (inl k)) = inr (inl k)
   not_assigned d bytes e f (inr (inr h)) (inr (inl k)) = inr (inl k)

@@ -14,3 +14,6 @@ mod BoundedMessages
 mod CopyLemmas
 mod OpenTextLemmas
 mod TomlValueLemmas
+mod KeyLemmas
+mod SetterLemmas
+mod KeyErrorLemmas

@@ -88,7 +88,7 @@ not_written s out n e is (inr h) = absurd (fits out n s e is h)
 -- ---- a handle
 
 -- what fails on a handle fails on the document that it holds
-on_held : (d : Handle) (P : Value → Type 0) (v : Value) (e : CallError) → Holds d v → FailsOnHandle d P e → P v
+pub on_held : (d : Handle) (P : Value → Type 0) (v : Value) (e : CallError) → Holds d v → FailsOnHandle d P e → P v
 on_held d P v e holds (inl h) = absurd (false≢true (sym h.1 ∙ holds.0))
 on_held d P v e holds (inr h) =
     let content : Some h.0 ≡ Some v = sym h.1.1 ∙ holds.1 in
@@ -291,7 +291,7 @@ module _ (not_both : (s : Text) (e : ParseError) → IsPointer s → IsParseErro
   placed d v n ts old e few is (inr h) =
       Assigns-LandsNowhere (nodes d) ts (nodes v) (nodes n) (option_map (λ r. nodes (view r)) old) (assign_position_of h.0) (assign_offset_of h.0) h.2.len h.2.token is.assigned h.2.nowhere
 
-  assigned : (d v n : Data) (bytes : List ℕ) (e : CallError) → IsUtf8 bytes → AssignsAtPointer d bytes v n → IsNotAssigned d bytes e → IsOutOfMemory e
+  pub assigned : (d v n : Data) (bytes : List ℕ) (e : CallError) → IsUtf8 bytes → AssignsAtPointer d bytes v n → IsNotAssigned d bytes e → IsOutOfMemory e
   assigned d v n bytes e u is (inl h) = absurd (no_pointer-parses not_both bytes is.0 e h (u, is.2))
   assigned d v n bytes e u is (inr (inl h)) = h
   assigned d v n bytes e u is (inr (inr h)) =

@@ -1,5 +1,5 @@
 -- The keys of an object, one after another.
-use Rattle.std.specs.Prelude.{◌≡◌, ◌⊎◌, ℕ, IsSome, IsUtf8, List, None, length}
+use Rattle.std.specs.Prelude.{◌≡◌, ◌⊎◌, ℕ, IsSome, IsUtf8, List, [], ◌∷◌, MatchOption, None, Option, length, take}
 use Rattle.std.specs.Ordering.{nat_cmp}
 use Rattle.std.specs.Cmp.Lexicographic.{slice_cmp}
 use Rattle.core.specs.declared.cmp.Ordering.TheVariants.{Less}
@@ -46,6 +46,16 @@ pub record HasNoNextKey (d : Data) (k : List ℕ) : Type 0 where
   pub object : IsObject d
   pub none : (l : List ℕ) → HasKey d l → IsLess k l → ⊥
 
+-- `VisitsAfter d k ks`: `ks` are the keys of the object `d` after `k`, one after another up to the last one
+abbrev pub VisitsAfter : Data → List ℕ → List (List ℕ) → Type 0
+VisitsAfter d k [] = HasNoNextKey d k
+VisitsAfter d k (n ∷ ns) = IsNextKey d k n × VisitsAfter d n ns
+
+-- `Visits d ks`: `ks` are the first key of the object `d`, the next key after it, and so on up to the last one
+abbrev pub Visits : Data → List (List ℕ) → Type 0
+Visits d [] = HasNoKey d
+Visits d (k ∷ ks) = IsFirstKey d k × VisitsAfter d k ks
+
 -- ---- At a pointer
 
 -- `FindsFirstKey d bytes k`: the pointer `bytes` resolves to an object of the document `d` whose least key is `k`
@@ -63,6 +73,16 @@ FindsNextKey d bytes k n = (v : Data) × FindsAtPointer d bytes v × IsNextKey v
 -- `FindsNoNextKey d bytes k`: the pointer `bytes` resolves to an object of the document `d` that has no key after `k`
 abbrev pub FindsNoNextKey : Data → List ℕ → List ℕ → Type 0
 FindsNoNextKey d bytes k = (v : Data) × FindsAtPointer d bytes v × HasNoNextKey v k
+
+-- `CopiesFirstKey d bytes found out`: the least key of that object is in the first bytes of `out`, as many as `found` says, or it has
+-- no key, and `found` is `None`
+abbrev pub CopiesFirstKey : Data → List ℕ → Option ℕ → List ℕ → Type 0
+CopiesFirstKey d bytes found out = MatchOption found (FindsNoKey d bytes) (λ n. FindsFirstKey d bytes (take n out))
+
+-- `CopiesNextKey d bytes k found out`: the same of its least key after `k`
+abbrev pub CopiesNextKey : Data → List ℕ → List ℕ → Option ℕ → List ℕ → Type 0
+CopiesNextKey d bytes k found out =
+    MatchOption found (FindsNoNextKey d bytes k) (λ n. FindsNextKey d bytes k (take n out))
 
 -- ---- Errors
 

@@ -1,10 +1,10 @@
 //! The keys of an object in a document in a handle, one after another in ascending order.
-ghost use Rattle.std.specs.Prelude.{◌≡◌, ◌≤◌, IfErr, IfNone, IfOk, IfSome, IsUtf8, MatchOption, OnErr, OnOk, length, string_bytes, take};
+ghost use Rattle.std.specs.Prelude.{◌≡◌, ◌≤◌, IfErr, IfNone, IfOk, IfSome, IsUtf8, MatchOption, OnErr, OnOk, length, string_bytes};
 ghost use Rattle.serde_json.specs.Data.{object};
 ghost use Rattle.serde_json.specs.View.{members_view, view};
 ghost use Rattle.jsonptr_c_calls.specs.Failures.{FailsOnHandle};
 ghost use Rattle.jsonptr_c_calls.specs.Handle.{Keeps};
-ghost use Rattle.jsonptr_c_calls.specs.Keys.{FindsFirstKey, FindsNextKey, FindsNoKey, FindsNoNextKey, HasNoKey, HasNoNextKey, IsFirstKey, IsNextKey, IsNoFirstKey, IsNoNextKey, IsNoObject, LacksNextKey};
+ghost use Rattle.jsonptr_c_calls.specs.Keys.{CopiesFirstKey, CopiesNextKey, HasNoKey, HasNoNextKey, IsFirstKey, IsNextKey, IsNoFirstKey, IsNoNextKey, IsNoObject, LacksNextKey};
 ghost use Rattle.jsonptr_c_calls.specs.Values.{FindsAtPointer, HoldsWith};
 
 use crate::buffer::copy_to;
@@ -47,9 +47,8 @@ pub fn first_key(
     pointer: &[u8],
     out: &mut [u8],
 ) -> Result<Option<usize>, CallError>
-    ensures key { IfOk result (λ found. HoldsWith document.old (λ v.
-        MatchOption found (FindsNoKey (view v) pointer.now)
-        (λ n. FindsFirstKey (view v) pointer.now (take n out.new)))) }
+    ensures key { IfOk result (λ found.
+        HoldsWith document.old (λ v. CopiesFirstKey (view v) pointer.now found out.new)) }
     ensures fits { IfOk result (λ found. IfSome found (λ n. n ≤ length out.new)) }
     ensures none_unchanged { IfOk result (λ found. IfNone found (out.new ≡ out.old)) }
     ensures utf8 { OnOk result (IsUtf8 pointer.now) }
@@ -101,9 +100,8 @@ pub fn next_key(
     key: &[u8],
     out: &mut [u8],
 ) -> Result<Option<usize>, CallError>
-    ensures key { IfOk result (λ found. HoldsWith document.old (λ v.
-        MatchOption found (FindsNoNextKey (view v) pointer.now key.now)
-        (λ n. FindsNextKey (view v) pointer.now key.now (take n out.new)))) }
+    ensures key { IfOk result (λ found.
+        HoldsWith document.old (λ v. CopiesNextKey (view v) pointer.now key.now found out.new)) }
     ensures fits { IfOk result (λ found. IfSome found (λ n. n ≤ length out.new)) }
     ensures none_unchanged { IfOk result (λ found. IfNone found (out.new ≡ out.old)) }
     ensures pointer_utf8 { OnOk result (IsUtf8 pointer.now) }
@@ -135,8 +133,8 @@ fn copy_first(
     pointer: &[u8],
     out: &mut [u8],
 ) -> Result<Option<usize>, CallError>
-    ensures key { IfOk result (λ found. MatchOption found (FindsNoKey (view document.now) pointer.now)
-        (λ n. FindsFirstKey (view document.now) pointer.now (take n out.new))) }
+    ensures key { IfOk result (λ found.
+        CopiesFirstKey (view document.now) pointer.now found out.new) }
     ensures fits { IfOk result (λ found. IfSome found (λ n. n ≤ length out.new)) }
     ensures none_unchanged { IfOk result (λ found. IfNone found (out.new ≡ out.old)) }
     ensures utf8 { OnOk result (IsUtf8 pointer.now) }
@@ -163,9 +161,8 @@ fn copy_next(
     key: &String,
     out: &mut [u8],
 ) -> Result<Option<usize>, CallError>
-    ensures key { IfOk result (λ found. MatchOption found
-        (FindsNoNextKey (view document.now) pointer.now (string_bytes key.now))
-        (λ n. FindsNextKey (view document.now) pointer.now (string_bytes key.now) (take n out.new))) }
+    ensures key { IfOk result (λ found.
+        CopiesNextKey (view document.now) pointer.now (string_bytes key.now) found out.new) }
     ensures fits { IfOk result (λ found. IfSome found (λ n. n ≤ length out.new)) }
     ensures none_unchanged { IfOk result (λ found. IfNone found (out.new ≡ out.old)) }
     ensures utf8 { OnOk result (IsUtf8 pointer.now) }

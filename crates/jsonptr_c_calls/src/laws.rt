@@ -1,6 +1,11 @@
 //! Laws of the errors of the calls.
-ghost use Rattle.std.specs.Prelude.{◌≡◌, ◌≤◌, ◌⊎◌, ℕ, Bool, IsTrue, IsUtf8, List, Some, length, take};
-ghost use Rattle.serde_json.specs.Data.{Data};
+ghost use Rattle.std.specs.Cmp.Lexicographic.{slice_cmp};
+ghost use Rattle.std.specs.Float.{float_is_finite};
+ghost use Rattle.std.specs.List.{Contains};
+ghost use Rattle.std.specs.List.Sorted.{IsStrictlySortedBy};
+ghost use Rattle.std.specs.Ordering.{nat_cmp};
+ghost use Rattle.std.specs.Prelude.{◌≡◌, ◌≤◌, ◌⊎◌, ◌↔◌, ℕ, Bool, Float, IsTrue, IsUtf8, List, Option, Some, length, take};
+ghost use Rattle.serde_json.specs.Data.{Data, float, number as json_number, string as json_string};
 ghost use Rattle.serde_json.specs.Read.{read as read_text};
 ghost use Rattle.serde_json.specs.View.{view};
 ghost use Rattle.serde_json.specs.declared.value.Value.{Value as JsonValue};
@@ -15,6 +20,8 @@ ghost use Rattle.jsonptr_c_calls.specs.Exactness.{IsNotParsedBy, IsNotParsedExac
 ghost use Rattle.jsonptr_c_calls.specs.Failures.{FailsOnHandle, IsNoPointer, IsNoToken, IsNotEscaped, IsNotParsed, IsNotPopped, IsNotPrinted, IsNotPushed, IsNotRead, IsNotWritten, IsOutOfMemory, IsTooShort, LacksRoomForFloat, SameStatus, Unfound};
 ghost use Rattle.jsonptr_c_calls.specs.Fragments.{IsFragmentFor, IsNotFromFragment, IsNotToFragment, IsPointerIn, SameError};
 ghost use Rattle.jsonptr_c_calls.specs.InTexts.{FindsTextIn, IsNotPrintedFrom, LacksRoomForFloatIn};
+ghost use Rattle.jsonptr_c_calls.specs.Keys.{CopiesFirstKey, CopiesNextKey, HasKey, IsFirstKey, IsNextKey, IsNoFirstKey, IsNoNextKey, Visits};
+ghost use Rattle.jsonptr_c_calls.specs.Setters.{AssignsInHandle, IsNumberNotAssigned, IsStringNotAssigned, IsValueNotAssigned};
 ghost use Rattle.jsonptr_c_calls.specs.Locations.{IsNotLocated, IsNotPointedAt, LacksLocation, LacksPointerAt, LocatesInText, PointsAt};
 ghost use Rattle.jsonptr_c_calls.specs.Messages.{HasMessageNumbers, error_message, message_of, message_room};
 ghost use Rattle.jsonptr_c_calls.specs.Nodes.{FindsNode};
@@ -41,11 +48,23 @@ pub fn message_law()
     ensures short { (r : ErrorRecord) → HasMessageNumbers r → length (message_of r) ≤ message_room }
 {}
 
+/// States that `first_key`, and then `next_key` with each key that is returned, visit each key of an object
+/// once, in ascending order: each of these keys is fixed, they ascend, and they are the keys of the object.
+pub fn keys_law()
+    ensures first { (d : Data) (k l : List ℕ) → IsFirstKey d k → IsFirstKey d l → k ≡ l }
+    ensures next { (d : Data) (k m n : List ℕ) → IsNextKey d k m → IsNextKey d k n → m ≡ n }
+    ensures ascending { (d : Data) (keys : List (List ℕ))
+        → Visits d keys → IsStrictlySortedBy (slice_cmp nat_cmp) keys }
+    ensures each { (d : Data) (keys : List (List ℕ)) (k : List ℕ)
+        → Visits d keys → HasKey d k ↔ Contains keys k }
+{}
+
 /// States that what a call is passed fixes the status with which it fails, except that an allocation
 /// can fail. Of the calls on fragments it fixes the whole error.
 /// For `patch` and `patch_with_inverse` it is stated of their text and of its operations, apart.
 /// If an operation fails, the whole error is fixed. Of `lost_number`, `patch_with_inverse` and `pointer_at` a
-/// buffer that is too short is left out, and `diff` and `message` as a whole.
+/// buffer that is too short is left out, and `diff` and `message` as a whole. The errors of `assign_integer`,
+/// `assign_natural`, `assign_boolean` and `assign_null` are those of `assign_value`.
 pub fn one_error_law()
     ensures count { (bytes : List ℕ) (e f : CallError)
         → IsNoPointer bytes e → IsNoPointer bytes f → SameStatus e f }
@@ -79,6 +98,17 @@ pub fn one_error_law()
     ensures assign { (text : List ℕ) (d : Handle) (bytes : List ℕ) (e f : CallError)
         → IsTextNotAssigned text d bytes e → IsTextNotAssigned text d bytes f
         → SameStatus e f }
+    ensures assign_value { (d : Handle) (bytes : List ℕ) (e f : CallError)
+        → IsValueNotAssigned d bytes e → IsValueNotAssigned d bytes f → SameStatus e f }
+    ensures assign_string { (s : List ℕ) (d : Handle) (bytes : List ℕ) (e f : CallError)
+        → IsStringNotAssigned s d bytes e → IsStringNotAssigned s d bytes f → SameStatus e f }
+    ensures assign_number { (x : Float) (d : Handle) (bytes : List ℕ) (e f : CallError)
+        → IsNumberNotAssigned x d bytes e → IsNumberNotAssigned x d bytes f → SameStatus e f }
+    ensures first_key { (d : Handle) (bytes : List ℕ) (room : ℕ) (e f : CallError)
+        → FailsOnHandle d (λ v. IsNoFirstKey (view v) bytes room e) e
+        → FailsOnHandle d (λ v. IsNoFirstKey (view v) bytes room f) f → SameStatus e f }
+    ensures next_key { (d : Handle) (bytes key : List ℕ) (room : ℕ) (e f : CallError)
+        → IsNoNextKey d bytes key room e → IsNoNextKey d bytes key room f → SameStatus e f }
     ensures delete { (d : Handle) (bytes : List ℕ) (e f : CallError)
         → FailsOnHandle d (λ _. IsNotDeleted bytes e) e → FailsOnHandle d (λ _. IsNotDeleted bytes f) f
         → SameStatus e f }
@@ -118,6 +148,8 @@ pub fn one_error_law()
 /// - `NotExact` and `NoRoom` of `lost_number` for the number that is lost. If each number keeps its
 ///   digits (`none_lost`), it is read as a float;
 /// - `NotLocated` of `locate` and `pointer_at`, and `NoValue` and `NoRoom` of `pointer_at`.
+///
+/// `assign_value` is also that of the integers, natural numbers, booleans and null that are assigned.
 pub fn not_both_law()
     ensures count { (pointer : List ℕ) (n : ℕ) (e : CallError)
         → IsUtf8 pointer → HasCount pointer n
@@ -166,6 +198,23 @@ pub fn not_both_law()
         → IsUtf8 text → IsUtf8 pointer → read_text text ≡ Some (view v)
         → Changes old (λ d n. AssignsAtPointer d pointer (view v) n) new
         → IsTextNotAssigned text old pointer e → IsOutOfMemory e }
+    ensures assign_value { (old new : Handle) (pointer : List ℕ) (v : Data) (e : CallError)
+        → IsUtf8 pointer → AssignsInHandle old pointer v new
+        → IsValueNotAssigned old pointer e → IsOutOfMemory e }
+    ensures assign_string { (s : List ℕ) (old new : Handle) (pointer : List ℕ) (e : CallError)
+        → IsUtf8 s → IsUtf8 pointer → AssignsInHandle old pointer (json_string s) new
+        → IsStringNotAssigned s old pointer e → IsOutOfMemory e }
+    ensures assign_number { (x : Float) (old new : Handle) (pointer : List ℕ) (e : CallError)
+        → IsTrue (float_is_finite x) → IsUtf8 pointer
+        → AssignsInHandle old pointer (json_number (float x)) new
+        → IsNumberNotAssigned x old pointer e → IsOutOfMemory e }
+    ensures first_key { (d : Handle) (pointer out : List ℕ) (found : Option ℕ) (e : CallError)
+        → IsUtf8 pointer → HoldsWith d (λ v. CopiesFirstKey (view v) pointer found out)
+        → FailsOnHandle d (λ v. IsNoFirstKey (view v) pointer (length out) e) e → IsOutOfMemory e }
+    ensures next_key { (d : Handle) (pointer key out : List ℕ) (found : Option ℕ) (e : CallError)
+        → IsUtf8 pointer → IsUtf8 key
+        → HoldsWith d (λ v. CopiesNextKey (view v) pointer key found out)
+        → IsNoNextKey d pointer key (length out) e → IsOutOfMemory e }
     ensures delete { (old new : Handle) (pointer : List ℕ) (found : Bool) (e : CallError)
         → IsUtf8 pointer → Changes old (λ d n. DeletesAtPointer d pointer found n) new
         → FailsOnHandle old (λ v. IsNotDeleted pointer e) e → IsOutOfMemory e }

@@ -2,6 +2,9 @@ use Rattle.jsonptr_patch.specs.declared.comparison.Comparison.TheVariants.{Numer
 use Rattle.jsonptr_c_calls.specs.Messages.{message_of}
 use Rattle.jsonptr_c_calls.proofs.FragmentLemmas.{from_fragment, to_fragment}
 use Rattle.jsonptr_c_calls.proofs.NotBothLemmas.{not_counted, no_token, not_escaped, not_pushed, not_popped, not_parsed, not_parsed_exactly, not_parsed_by, not_printed, not_read, not_described, not_assigned, not_deleted, not_applied, not_inverted, not_compared, not_printed_from, not_pointed_to, none_lost, not_located, not_pointed_at, not_written}
+use Rattle.serde_json.specs.Data.{float, number, string}
+use Rattle.jsonptr_c_calls.proofs.SetterLemmas.{value_assigned, string_assigned, number_assigned}
+use Rattle.jsonptr_c_calls.proofs.KeyErrorLemmas.{first_key_copied, next_key_copied}
 use Rattle.jsonptr_c_calls.proofs.laws.not_both_law.Goals as goal
 
 pub returns-clause-count : goal.returns-clause-count
@@ -45,6 +48,21 @@ returns-clause-node c = not_described c.parse_law.ensures.not_both
 
 pub returns-clause-assign : goal.returns-clause-assign
 returns-clause-assign c = not_assigned c.parse_law.ensures.not_both
+
+pub returns-clause-assign_value : goal.returns-clause-assign_value
+returns-clause-assign_value c = value_assigned c.parse_law.ensures.not_both
+
+pub returns-clause-assign_string : goal.returns-clause-assign_string
+returns-clause-assign_string c = λ s old new pointer. string_assigned c.parse_law.ensures.not_both s old new pointer (string s)
+
+pub returns-clause-assign_number : goal.returns-clause-assign_number
+returns-clause-assign_number c = λ x old new pointer. number_assigned c.parse_law.ensures.not_both x old new pointer (number (float x))
+
+pub returns-clause-first_key : goal.returns-clause-first_key
+returns-clause-first_key c = first_key_copied c.parse_law.ensures.not_both
+
+pub returns-clause-next_key : goal.returns-clause-next_key
+returns-clause-next_key c = next_key_copied c.parse_law.ensures.not_both
 
 pub returns-clause-delete : goal.returns-clause-delete
 returns-clause-delete c = not_deleted c.parse_law.ensures.not_both

@@ -1,6 +1,8 @@
 use Rattle.jsonptr_patch.specs.declared.comparison.Comparison.TheVariants.{Numeric}
 use Rattle.jsonptr_c_calls.proofs.FragmentLemmas.{not_from_fragment, not_to_fragment}
 use Rattle.jsonptr_c_calls.proofs.LawLemmas.{no_pointers, no_tokens, not_escaped, not_pushed, not_popped, not_parsed, not_parsed_exactly, pointer_lacked, not_printed_in, not_read_in, unfound_in, not_assigned_in, not_deleted_in, not_patch, not_applied, not_patched, failed_one, not_printed_from, not_located, lacks_location}
+use Rattle.jsonptr_c_calls.proofs.SetterLemmas.{not_value_assigned, not_string_assigned, not_number_assigned}
+use Rattle.jsonptr_c_calls.proofs.KeyErrorLemmas.{no_first_key, no_next_key}
 use Rattle.jsonptr_c_calls.proofs.laws.one_error_law.Goals as goal
 
 pub returns-clause-count : goal.returns-clause-count
@@ -44,6 +46,21 @@ returns-clause-node c = unfound_in c.parse_law.ensures.not_both
 
 pub returns-clause-assign : goal.returns-clause-assign
 returns-clause-assign c = not_assigned_in c.parse_law.ensures.not_both
+
+pub returns-clause-assign_value : goal.returns-clause-assign_value
+returns-clause-assign_value c = not_value_assigned c.parse_law.ensures.not_both
+
+pub returns-clause-assign_string : goal.returns-clause-assign_string
+returns-clause-assign_string c = not_string_assigned c.parse_law.ensures.not_both
+
+pub returns-clause-assign_number : goal.returns-clause-assign_number
+returns-clause-assign_number c = not_number_assigned c.parse_law.ensures.not_both
+
+pub returns-clause-first_key : goal.returns-clause-first_key
+returns-clause-first_key c = no_first_key c.parse_law.ensures.not_both
+
+pub returns-clause-next_key : goal.returns-clause-next_key
+returns-clause-next_key c = no_next_key c.parse_law.ensures.not_both
 
 pub returns-clause-delete : goal.returns-clause-delete
 returns-clause-delete c = not_deleted_in c.parse_law.ensures.not_both
