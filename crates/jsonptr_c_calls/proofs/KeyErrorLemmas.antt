@@ -1,5 +1,5 @@
 -- The errors of the calls that copy a key.
-use Rattle.std.proofs.Common.{◌≡◌, ◌⊎◌, inl, inr, ℕ, IsUtf8, List, MatchOption, Option, Some, None, length, refl, sym, ap, ◌∙◌, subst, take}
+use Rattle.std.proofs.Common.{◌≡◌, ◌⊎◌, inl, inr, ℕ, IsUtf8, List, MatchOption, Option, Some, None, length, refl, ap, ◌∙◌, subst, take}
 use Rattle.std.proofs.lemmas.Bool.{false≢true}
 use Rattle.std.specs.Prelude.{IsSome}
 use Rattle.serde_json.specs.Data.{Data, null, boolean, number, string, array, object}

@@ -1,5 +1,5 @@
 -- The errors of assignments of a value.
-use Rattle.std.proofs.Common.{◌≡◌, ◌⊎◌, inl, inr, IsTrue, IsUtf8, List, ℕ, refl, sym, ◌∙◌}
+use Rattle.std.proofs.Common.{◌⊎◌, inl, inr, IsTrue, IsUtf8, List, ℕ, refl, sym, ◌∙◌}
 use Rattle.std.specs.Float.{Float, float_is_finite}
 use Rattle.std.proofs.lemmas.Bool.{false≢true}
 use Rattle.serde_json.specs.Data.{Data}

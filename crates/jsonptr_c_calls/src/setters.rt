@@ -214,11 +214,7 @@ pub fn assign_boolean(
 /// assert_eq!(rt; node.node_type, NULL);
 /// documents::free(alloc, &mut document);
 /// ```
-pub fn assign_null(
-    alloc: Global,
-    document: &mut Handle,
-    pointer: &[u8],
-) -> Result<(), CallError>
+pub fn assign_null(alloc: Global, document: &mut Handle, pointer: &[u8]) -> Result<(), CallError>
     ensures assigned { OnOk result
         (AssignsInHandle document.old pointer.now json_null document.new) }
     ensures bounded { IfOk result (λ _.
