@@ -98,6 +98,10 @@ OTHERS = {
             "parse", "parse_exactly", "free", "get", "string", "node", "assign", "delete", "patch", "patch_with_inverse",
             "diff",
         ]),
+        ("jsonptr_c_calls/src/setters.rt", [
+            "assign_string", "assign_integer", "assign_natural", "assign_number", "assign_boolean", "assign_null",
+        ]),
+        ("jsonptr_c_calls/src/keys.rt", ["first_key", "next_key"]),
         ("jsonptr_c_calls/src/texts.rt", ["resolve", "lost_number"]),
         ("jsonptr_c_calls/src/locations.rt", ["locate", "pointer_at"]),
         ("jsonptr_c_calls/src/outcome.rt", ["succeed", "fail", "fail_with_length"]),
