@@ -1,7 +1,7 @@
-/* The functions of jsonptr.h. Each looks for NULL, for a length that no object has, for a flag that is not defined, and
- * for one document that is passed twice, and then calls the proved function. A call that only reads a document passes a
- * copy of its handle, so the handle of the caller is never written to. A result that leaves room is ended by a zero.
- * Nothing else is decided here. */
+/* The functions of jsonptr.h. Each looks for NULL, for a length that no object has, for a flag that is not defined, for
+ * one document that is passed twice, and for a key in the buffer of the next one, and then calls the proved function. A
+ * call that only reads a document passes a copy of its handle, so the handle of the caller is never written to. A result
+ * that leaves room is ended by a zero. Nothing else is decided here. */
 #include "jsonptr.h"
 
 /* The proved functions, from crates/jsonptr_c. No pointer may be NULL. */
@@ -14,6 +14,10 @@ uint32_t jsonptrcore_pointer_escape(const char *token, size_t token_length, char
 uint32_t jsonptrcore_pointer_push(char *buffer, size_t capacity, size_t *length, const char *token, size_t token_length,
                                   jsonptr_error *error);
 uint32_t jsonptrcore_pointer_pop(const char *pointer, size_t pointer_length, size_t *length, jsonptr_error *error);
+uint32_t jsonptrcore_pointer_from_fragment(const char *fragment, size_t fragment_length, char *out, size_t capacity,
+                                           size_t *length, jsonptr_error *error);
+uint32_t jsonptrcore_pointer_to_fragment(const char *pointer, size_t pointer_length, char *out, size_t capacity,
+                                         size_t *length, jsonptr_error *error);
 uint32_t jsonptrcore_document_parse(jsonptr_document *document, const char *text, size_t text_length,
                                     jsonptr_error *error);
 uint32_t jsonptrcore_document_parse_with(jsonptr_document *document, const char *text, size_t text_length, bool is_exact,
@@ -25,8 +29,25 @@ uint32_t jsonptrcore_document_string(jsonptr_document *document, const char *poi
                                      size_t capacity, size_t *length, jsonptr_error *error);
 uint32_t jsonptrcore_document_node(jsonptr_document *document, const char *pointer, size_t pointer_length,
                                    jsonptr_node *node, jsonptr_error *error);
+uint32_t jsonptrcore_document_first_key(jsonptr_document *document, const char *pointer, size_t pointer_length,
+                                        bool *found, char *out, size_t capacity, size_t *length, jsonptr_error *error);
+uint32_t jsonptrcore_document_next_key(jsonptr_document *document, const char *pointer, size_t pointer_length,
+                                       const char *key, size_t key_length, bool *found, char *out, size_t capacity,
+                                       size_t *length, jsonptr_error *error);
 uint32_t jsonptrcore_document_assign(jsonptr_document *document, const char *pointer, size_t pointer_length,
                                      const char *text, size_t text_length, jsonptr_error *error);
+uint32_t jsonptrcore_document_assign_string(jsonptr_document *document, const char *pointer, size_t pointer_length,
+                                            const char *string, size_t string_length, jsonptr_error *error);
+uint32_t jsonptrcore_document_assign_integer(jsonptr_document *document, const char *pointer, size_t pointer_length,
+                                             int64_t number, jsonptr_error *error);
+uint32_t jsonptrcore_document_assign_natural(jsonptr_document *document, const char *pointer, size_t pointer_length,
+                                             uint64_t number, jsonptr_error *error);
+uint32_t jsonptrcore_document_assign_number(jsonptr_document *document, const char *pointer, size_t pointer_length,
+                                            double number, jsonptr_error *error);
+uint32_t jsonptrcore_document_assign_boolean(jsonptr_document *document, const char *pointer, size_t pointer_length,
+                                             bool value, jsonptr_error *error);
+uint32_t jsonptrcore_document_assign_null(jsonptr_document *document, const char *pointer, size_t pointer_length,
+                                          jsonptr_error *error);
 uint32_t jsonptrcore_document_delete(jsonptr_document *document, const char *pointer, size_t pointer_length, bool *found,
                                      jsonptr_error *error);
 uint32_t jsonptrcore_document_patch(jsonptr_document *document, const char *text, size_t text_length,
@@ -76,6 +97,12 @@ static bool is_slice(const void *start, size_t length) {
 static const char *start_of(const char *start) {
     static const char empty = 0;
     return start != NULL ? start : &empty;
+}
+
+/* Whether two slices have a byte in common. */
+static bool is_shared(const char *first, size_t first_length, const char *second, size_t second_length) {
+    uintptr_t a = (uintptr_t)first, b = (uintptr_t)second;
+    return first_length != 0 && second_length != 0 && (a < b ? b - a < first_length : a - b < second_length);
 }
 
 /* What is written for an optional argument that is NULL, and where an empty buffer starts. */
@@ -177,6 +204,30 @@ jsonptr_status jsonptr_pointer_pop(const char *pointer, size_t *length, jsonptr_
     return jsonptrcore_pointer_pop(start_of(pointer), *length, length, OR(error, none.error));
 }
 
+jsonptr_status jsonptr_pointer_from_fragment(const char *fragment, size_t fragment_length, char *out, size_t capacity,
+                                             size_t *length, jsonptr_error *error) {
+    unwanted none;
+    if (!is_slice(fragment, fragment_length) || !is_slice(out, capacity)) {
+        return bad_argument(error);
+    }
+    size_t *size = OR(length, none.length);
+    jsonptr_status status = jsonptrcore_pointer_from_fragment(start_of(fragment), fragment_length,
+        OR(out, none.buffer), capacity, size, OR(error, none.error));
+    return ended(status, out, capacity, size);
+}
+
+jsonptr_status jsonptr_pointer_to_fragment(const char *pointer, size_t pointer_length, char *out, size_t capacity,
+                                           size_t *length, jsonptr_error *error) {
+    unwanted none;
+    if (!is_slice(pointer, pointer_length) || !is_slice(out, capacity)) {
+        return bad_argument(error);
+    }
+    size_t *size = OR(length, none.length);
+    jsonptr_status status = jsonptrcore_pointer_to_fragment(start_of(pointer), pointer_length, OR(out, none.buffer),
+        capacity, size, OR(error, none.error));
+    return ended(status, out, capacity, size);
+}
+
 jsonptr_status jsonptr_document_parse(jsonptr_document *document, const char *text, size_t text_length,
                                       jsonptr_error *error) {
     unwanted none;
@@ -243,6 +294,35 @@ jsonptr_status jsonptr_document_node(const jsonptr_document *document, const cha
     return jsonptrcore_document_node(&copy, start_of(pointer), pointer_length, node, OR(error, none.error));
 }
 
+jsonptr_status jsonptr_document_first_key(const jsonptr_document *document, const char *pointer, size_t pointer_length,
+                                          bool *found, char *out, size_t capacity, size_t *length,
+                                          jsonptr_error *error) {
+    unwanted none;
+    if (document == NULL || !is_slice(pointer, pointer_length) || !is_slice(out, capacity)) {
+        return bad_argument(error);
+    }
+    size_t *size = OR(length, none.length);
+    jsonptr_document copy = *document;
+    jsonptr_status status = jsonptrcore_document_first_key(&copy, start_of(pointer), pointer_length,
+        OR(found, none.found), OR(out, none.buffer), capacity, size, OR(error, none.error));
+    return ended(status, out, capacity, size);
+}
+
+jsonptr_status jsonptr_document_next_key(const jsonptr_document *document, const char *pointer, size_t pointer_length,
+                                         const char *key, size_t key_length, bool *found, char *out, size_t capacity,
+                                         size_t *length, jsonptr_error *error) {
+    unwanted none;
+    if (document == NULL || !is_slice(pointer, pointer_length) || !is_slice(key, key_length) ||
+        !is_slice(out, capacity) || is_shared(key, key_length, out, capacity)) {
+        return bad_argument(error);
+    }
+    size_t *size = OR(length, none.length);
+    jsonptr_document copy = *document;
+    jsonptr_status status = jsonptrcore_document_next_key(&copy, start_of(pointer), pointer_length, start_of(key),
+        key_length, OR(found, none.found), OR(out, none.buffer), capacity, size, OR(error, none.error));
+    return ended(status, out, capacity, size);
+}
+
 jsonptr_status jsonptr_document_assign(jsonptr_document *document, const char *pointer, size_t pointer_length,
                                        const char *text, size_t text_length, jsonptr_error *error) {
     unwanted none;
@@ -251,6 +331,65 @@ jsonptr_status jsonptr_document_assign(jsonptr_document *document, const char *p
     }
     return jsonptrcore_document_assign(document, start_of(pointer), pointer_length, start_of(text), text_length,
                                        OR(error, none.error));
+}
+
+jsonptr_status jsonptr_document_assign_string(jsonptr_document *document, const char *pointer, size_t pointer_length,
+                                              const char *string, size_t string_length, jsonptr_error *error) {
+    unwanted none;
+    if (document == NULL || !is_slice(pointer, pointer_length) || !is_slice(string, string_length)) {
+        return bad_argument(error);
+    }
+    return jsonptrcore_document_assign_string(document, start_of(pointer), pointer_length, start_of(string),
+                                              string_length, OR(error, none.error));
+}
+
+jsonptr_status jsonptr_document_assign_integer(jsonptr_document *document, const char *pointer, size_t pointer_length,
+                                               int64_t number, jsonptr_error *error) {
+    unwanted none;
+    if (document == NULL || !is_slice(pointer, pointer_length)) {
+        return bad_argument(error);
+    }
+    return jsonptrcore_document_assign_integer(document, start_of(pointer), pointer_length, number,
+                                               OR(error, none.error));
+}
+
+jsonptr_status jsonptr_document_assign_natural(jsonptr_document *document, const char *pointer, size_t pointer_length,
+                                               uint64_t number, jsonptr_error *error) {
+    unwanted none;
+    if (document == NULL || !is_slice(pointer, pointer_length)) {
+        return bad_argument(error);
+    }
+    return jsonptrcore_document_assign_natural(document, start_of(pointer), pointer_length, number,
+                                               OR(error, none.error));
+}
+
+jsonptr_status jsonptr_document_assign_number(jsonptr_document *document, const char *pointer, size_t pointer_length,
+                                              double number, jsonptr_error *error) {
+    unwanted none;
+    if (document == NULL || !is_slice(pointer, pointer_length)) {
+        return bad_argument(error);
+    }
+    return jsonptrcore_document_assign_number(document, start_of(pointer), pointer_length, number,
+                                              OR(error, none.error));
+}
+
+jsonptr_status jsonptr_document_assign_boolean(jsonptr_document *document, const char *pointer, size_t pointer_length,
+                                               bool value, jsonptr_error *error) {
+    unwanted none;
+    if (document == NULL || !is_slice(pointer, pointer_length)) {
+        return bad_argument(error);
+    }
+    return jsonptrcore_document_assign_boolean(document, start_of(pointer), pointer_length, value,
+                                               OR(error, none.error));
+}
+
+jsonptr_status jsonptr_document_assign_null(jsonptr_document *document, const char *pointer, size_t pointer_length,
+                                            jsonptr_error *error) {
+    unwanted none;
+    if (document == NULL || !is_slice(pointer, pointer_length)) {
+        return bad_argument(error);
+    }
+    return jsonptrcore_document_assign_null(document, start_of(pointer), pointer_length, OR(error, none.error));
 }
 
 jsonptr_status jsonptr_document_delete(jsonptr_document *document, const char *pointer, size_t pointer_length,

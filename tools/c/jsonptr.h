@@ -81,8 +81,8 @@
  *             the order of their keys.
  * Threads     There are no globals. Two threads may use two documents at once.
  *             Any number of threads may read one at once, by the calls whose
- *             `document` is const: jsonptr_document_print, _get, _string, _node
- *             and _diff, and one text by those of which it
+ *             `document` is const: jsonptr_document_print, _get, _string, _node,
+ *             _first_key, _next_key and _diff, and one text by those of which it
  *             is const. A CALL THAT CHANGES OR FREES A DOCUMENT IS ALONE: no other
  *             call uses the document at that time, so take a lock around both.
  *             The calls on pointers, and those that end in _in_text, have no
@@ -171,7 +171,7 @@ typedef uint32_t jsonptr_status;
 #define JSONPTR_OK            0u  /* the call succeeded */
 #define JSONPTR_NO_MEMORY     1u  /* malloc or realloc returned NULL */
 #define JSONPTR_NO_ROOM       2u  /* the buffer is shorter than the result */
-#define JSONPTR_BAD_ARGUMENT  3u  /* NULL, a length that cannot be, an unknown flag, or one document passed twice */
+#define JSONPTR_BAD_ARGUMENT  3u  /* NULL, a length that cannot be, an unknown flag, NaN, or an argument passed twice */
 #define JSONPTR_NO_DOCUMENT   4u  /* the handle holds no document, or no text */
 #define JSONPTR_NOT_UTF8      5u  /* a text is not UTF-8 */
 #define JSONPTR_NOT_JSON      6u  /* a text is not a JSON text */
@@ -191,12 +191,14 @@ typedef uint32_t jsonptr_status;
 #define JSONPTR_NOT_TOML_VALUE 20u /* the value is null or an integer that TOML has not, or contains one */
 #define JSONPTR_NOT_RENAMED  21u  /* the member cannot be renamed so */
 #define JSONPTR_OTHER_FORMAT 22u  /* the call does not work on texts of this format */
+#define JSONPTR_NOT_FRAGMENT 23u  /* a text is not the fragment of a JSON Pointer */
 
 /* ---- Errors ------------------------------------------------------------ */
 
 /* What is at fault, more exactly than by the status: jsonptr_error.kind. */
 #define JSONPTR_KIND_NONE               0u
-/* JSONPTR_NOT_POINTER, and JSONPTR_NOT_PATCH for the `path` or `from` of an operation */
+/* JSONPTR_NOT_POINTER, JSONPTR_NOT_PATCH for the `path` or `from` of an operation, and JSONPTR_NOT_FRAGMENT for the
+ * text that a fragment encodes */
 #define JSONPTR_KIND_NO_LEADING_SLASH   1u  /* not empty, and does not start with a slash */
 #define JSONPTR_KIND_BAD_ESCAPE         2u  /* a '~' is not followed by '0' or '1' */
 /* JSONPTR_NOT_FOUND, and JSONPTR_PATCH_FAILED */
@@ -231,6 +233,11 @@ typedef uint32_t jsonptr_status;
 #define JSONPTR_KIND_TOML_TOO_DEEP     23u  /* the values of the text nest, or would nest, deeper than 80 */
 /* JSONPTR_NOT_TOML_VALUE */
 #define JSONPTR_KIND_NO_TOML_TEXT      24u  /* the whole document would have no TOML text: it would not be a table */
+/* JSONPTR_NOT_FRAGMENT */
+#define JSONPTR_KIND_NO_HASH           25u  /* the text does not start with '#' */
+#define JSONPTR_KIND_BAD_BYTE          26u  /* a byte that a fragment may have only percent-encoded */
+#define JSONPTR_KIND_BAD_PERCENT       27u  /* a '%' is not followed by two hexadecimal digits */
+#define JSONPTR_KIND_ENCODED_NOT_UTF8  28u  /* the bytes that the fragment encodes are not UTF-8 */
 
 /* A member of an operation, or an argument of the call: jsonptr_error.member. */
 #define JSONPTR_MEMBER_NONE      0u
@@ -239,8 +246,8 @@ typedef uint32_t jsonptr_status;
 #define JSONPTR_MEMBER_FROM      3u
 #define JSONPTR_MEMBER_VALUE     4u
 #define JSONPTR_ARGUMENT_POINTER 5u  /* JSONPTR_NOT_UTF8: the pointer of the call is not UTF-8 */
-#define JSONPTR_ARGUMENT_TOKEN   6u  /* the token, or the key of jsonptr_text_rename */
-#define JSONPTR_ARGUMENT_TEXT    7u  /* the JSON text, or that of the value or the patch */
+#define JSONPTR_ARGUMENT_TOKEN   6u  /* the token, or the key of jsonptr_text_rename or jsonptr_document_next_key */
+#define JSONPTR_ARGUMENT_TEXT    7u  /* the JSON text, that of the value or the patch, the string, or the fragment */
 
 /* The error of a call. A call that succeeds sets all fields to 0. Each error
  * sets `status`, and the fields in this table; the others are 0.
@@ -253,6 +260,11 @@ typedef uint32_t jsonptr_status;
  *     NOT_TOML      0                             offset
  *     NOT_POINTER   NO_LEADING_SLASH              kind; the fault is at offset 0
  *                   BAD_ESCAPE                    kind, position, slash, offset, length
+ *     NOT_FRAGMENT  NO_HASH                       kind; the fault is at offset 0
+ *                   BAD_BYTE, BAD_PERCENT,
+ *                   ENCODED_NOT_UTF8,
+ *                   NO_LEADING_SLASH              kind, offset
+ *                   BAD_ESCAPE                    kind, slash, offset
  *     NOT_FOUND     NOT_AN_INDEX, OUT_OF_BOUNDS,
  *                   NO_MEMBER, NO_CHILDREN        kind, position, slash, offset, length
  *     NOT_ASSIGNED  NOT_A_NEW_INDEX,
@@ -296,6 +308,10 @@ typedef uint32_t jsonptr_status;
  * "move" and "copy" it is `from` if that does not resolve: member says which.
  * length is 0.
  *
+ * The offset of NOT_FRAGMENT is in the fragment: that of the byte or '%' at fault, or
+ * of what encodes the byte at fault. The slash is in the text that the fragment
+ * encodes. So #/%20/~2 encodes "/ /~2", and has offset 6 and slash 2.
+ *
  * The offset of NOT_UTF8 is that of the first byte that is not UTF-8. The offset
  * of NOT_JSON is where reading stopped:
  *
@@ -323,6 +339,7 @@ typedef struct jsonptr_error {
  * offset 6 is out of bounds". The number after "token at", "token at offset" or
  * "starting at offset" is `slash`, and that after "operation" is `operation`.
  * NOT_UTF8 and NOT_JSON have no number in the message: print `offset` beside it.
+ * The number after "at byte", of NOT_FRAGMENT, is `offset`.
  * The message of NOT_EXACT is "the number at offset 7 loses digits", and that of
  * NO_VALUE "no value is at offset 7".
  * The message of a success is "no error".
@@ -403,6 +420,36 @@ jsonptr_status jsonptr_pointer_push(char *buffer, size_t capacity, size_t *lengt
 JSONPTR_API JSONPTR_NODISCARD
 jsonptr_status jsonptr_pointer_pop(const char *pointer, size_t *length,
                                    jsonptr_error *error);
+
+/* Copies the pointer of a fragment (RFC 6901, section 6): of a text that begins with
+ * '#', as in the "$ref" of a JSON Schema.
+ *
+ *     #/a%20b     has "/a b"          #     has ""
+ *
+ * Of a URI, pass what is from its '#' on. Any byte may be percent-encoded, with hexadecimal
+ * digits in upper or lower case. One that RFC 3986 does not allow in a fragment has to
+ * be, as a space, '"' or one outside ASCII.
+ *
+ * Returns   JSONPTR_OK, JSONPTR_NOT_UTF8 with offset, JSONPTR_NOT_FRAGMENT with kind,
+ *           slash and offset, JSONPTR_NO_ROOM, JSONPTR_NO_MEMORY.
+ * length    may be NULL, and so may `error`.
+ * Cost      linear in the fragment. */
+JSONPTR_API JSONPTR_NODISCARD
+jsonptr_status jsonptr_pointer_from_fragment(const char *fragment, size_t fragment_length,
+                                             char *out, size_t capacity, size_t *length,
+                                             jsonptr_error *error);
+
+/* Copies the fragment of a pointer, with its '#': "/a b" has #/a%20b. Only a byte that RFC
+ * 3986 does not allow in a fragment is percent-encoded, with digits in upper case.
+ *
+ * Returns   JSONPTR_OK, those of jsonptr_pointer_count, JSONPTR_NO_ROOM,
+ *           JSONPTR_NO_MEMORY.
+ * length    may be NULL, and so may `error`.
+ * Cost      linear in the pointer. */
+JSONPTR_API JSONPTR_NODISCARD
+jsonptr_status jsonptr_pointer_to_fragment(const char *pointer, size_t pointer_length,
+                                           char *out, size_t capacity, size_t *length,
+                                           jsonptr_error *error);
 
 /* ---- Documents --------------------------------------------------------- */
 
@@ -546,6 +593,54 @@ jsonptr_status jsonptr_document_node(const jsonptr_document *document,
                                      const char *pointer, size_t pointer_length,
                                      jsonptr_node *node, jsonptr_error *error);
 
+/* Copies the first key of the object that a pointer resolves to. Keys ascend by their
+ * bytes, as they are printed. A key is not escaped: jsonptr_pointer_push appends it to a
+ * pointer.
+ *
+ *     char keys[2][64];                          // in turn: `key` and `out` do not overlap
+ *     int at = 0;
+ *     status = jsonptr_document_first_key(&document, "", 0, &found, keys[0], 64, &length, &error);
+ *     while (status == JSONPTR_OK && found) {
+ *         puts(keys[at]);
+ *         status = jsonptr_document_next_key(&document, "", 0, keys[at], length, &found,
+ *                                            keys[!at], 64, &length, &error);
+ *         at = !at;
+ *     }
+ *
+ * found     may be NULL: whether there is a key. If not, `*length` is set to 0. So may
+ *           `length` and `error`.
+ * Returns   JSONPTR_OK, JSONPTR_NO_DOCUMENT, those of jsonptr_pointer_count,
+ *           JSONPTR_NOT_FOUND with kind, position, slash, offset and length,
+ *           JSONPTR_OTHER_TYPE if the value is not an object, JSONPTR_NO_ROOM,
+ *           JSONPTR_NO_MEMORY. An error leaves `*found`.
+ * Cost      linear in the pointer and in the key, and logarithmic in the members of the
+ *           object. Allocates only for a token with a '~'. */
+JSONPTR_API JSONPTR_NODISCARD
+jsonptr_status jsonptr_document_first_key(const jsonptr_document *document,
+                                          const char *pointer, size_t pointer_length,
+                                          bool *found,
+                                          char *out, size_t capacity, size_t *length,
+                                          jsonptr_error *error);
+
+/* Copies the key after another one, as jsonptr_document_first_key does: the least one that
+ * is greater. The other key need not be in the object, so members may be deleted
+ * between two calls.
+ *
+ * found     may be NULL: whether there is a key. If not, `*length` is set to 0. So may
+ *           `length` and `error`.
+ * Returns   JSONPTR_OK, JSONPTR_BAD_ARGUMENT also if `out` overlaps `key`,
+ *           JSONPTR_NOT_UTF8 with offset for the key, and then as
+ *           jsonptr_document_first_key. An error leaves `*found`.
+ * Cost      linear in the pointer and in both keys, and logarithmic in the members of
+ *           the object. */
+JSONPTR_API JSONPTR_NODISCARD
+jsonptr_status jsonptr_document_next_key(const jsonptr_document *document,
+                                         const char *pointer, size_t pointer_length,
+                                         const char *key, size_t key_length,
+                                         bool *found,
+                                         char *out, size_t capacity, size_t *length,
+                                         jsonptr_error *error);
+
 /* Assigns the value of a JSON text at the location of a pointer. What is there
  * is replaced. Missing objects and arrays on the way are created: "0" and "-"
  * make an array, other tokens an object. A string, number, boolean or null on
@@ -567,6 +662,83 @@ jsonptr_status jsonptr_document_assign(jsonptr_document *document,
                                        const char *pointer, size_t pointer_length,
                                        const char *text, size_t text_length,
                                        jsonptr_error *error);
+
+/* Assigns a string at the location of a pointer, as jsonptr_document_assign does with
+ * the JSON text of the string: here it has neither quotation marks nor escapes.
+ *
+ *     jsonptr_document_assign_string(&document, "/name", 5, "a\"b", 3, &error)
+ *                                          makes {"name": "a\"b"} of {}
+ *
+ * Returns   JSONPTR_OK, JSONPTR_NOT_UTF8 with offset for the string,
+ *           JSONPTR_NO_DOCUMENT, those of jsonptr_pointer_count for the pointer,
+ *           JSONPTR_TOO_DEEP if the pointer has more than 10,000 tokens,
+ *           JSONPTR_NOT_ASSIGNED with kind, position, slash, offset and length,
+ *           JSONPTR_NO_MEMORY. An error leaves the document.
+ * error     may be NULL.
+ * Cost      linear in the pointer and in the string, and in a value that is replaced. */
+JSONPTR_API JSONPTR_NODISCARD
+jsonptr_status jsonptr_document_assign_string(jsonptr_document *document,
+                                              const char *pointer, size_t pointer_length,
+                                              const char *string, size_t string_length,
+                                              jsonptr_error *error);
+
+/* Assigns an integer at the location of a pointer, as jsonptr_document_assign does with
+ * its text.
+ *
+ * Returns   as jsonptr_document_assign_string, except JSONPTR_NOT_UTF8 for the string.
+ *           An error leaves the document.
+ * error     may be NULL.
+ * Cost      linear in the pointer, and in a value that is replaced. */
+JSONPTR_API JSONPTR_NODISCARD
+jsonptr_status jsonptr_document_assign_integer(jsonptr_document *document,
+                                               const char *pointer, size_t pointer_length,
+                                               int64_t number, jsonptr_error *error);
+
+/* Assigns an integer from 0 to 2^64-1 at the location of a pointer, as
+ * jsonptr_document_assign does with its text.
+ *
+ * Returns   as jsonptr_document_assign_integer. An error leaves the document.
+ * error     may be NULL.
+ * Cost      linear in the pointer, and in a value that is replaced. */
+JSONPTR_API JSONPTR_NODISCARD
+jsonptr_status jsonptr_document_assign_natural(jsonptr_document *document,
+                                               const char *pointer, size_t pointer_length,
+                                               uint64_t number, jsonptr_error *error);
+
+/* Assigns a double at the location of a pointer, as jsonptr_document_assign does with its
+ * text. It is printed with a point or an exponent: 3 as 3.0, which is no integer for
+ * jsonptr_document_node.
+ *
+ * Returns   JSONPTR_OK, JSONPTR_BAD_ARGUMENT also if the number is NaN or infinite,
+ *           and then as jsonptr_document_assign_integer. An error leaves the document.
+ * error     may be NULL.
+ * Cost      linear in the pointer, and in a value that is replaced. */
+JSONPTR_API JSONPTR_NODISCARD
+jsonptr_status jsonptr_document_assign_number(jsonptr_document *document,
+                                              const char *pointer, size_t pointer_length,
+                                              double number, jsonptr_error *error);
+
+/* Assigns true or false at the location of a pointer, as jsonptr_document_assign does with
+ * its text.
+ *
+ * Returns   as jsonptr_document_assign_integer. An error leaves the document.
+ * error     may be NULL.
+ * Cost      linear in the pointer, and in a value that is replaced. */
+JSONPTR_API JSONPTR_NODISCARD
+jsonptr_status jsonptr_document_assign_boolean(jsonptr_document *document,
+                                               const char *pointer, size_t pointer_length,
+                                               bool value, jsonptr_error *error);
+
+/* Assigns null at the location of a pointer, as jsonptr_document_assign does with its text.
+ * It deletes nothing: jsonptr_document_delete does.
+ *
+ * Returns   as jsonptr_document_assign_integer. An error leaves the document.
+ * error     may be NULL.
+ * Cost      linear in the pointer, and in a value that is replaced. */
+JSONPTR_API JSONPTR_NODISCARD
+jsonptr_status jsonptr_document_assign_null(jsonptr_document *document,
+                                            const char *pointer, size_t pointer_length,
+                                            jsonptr_error *error);
 
 /* Deletes the value that a pointer resolves to. If there is none, the document
  * is unchanged, and that is no error. Deleting "" leaves null.
