@@ -1,6 +1,9 @@
-/* Arguments that no call accepts: NULL with a length, NULL handles, lengths that no object has, one document twice. Each
- * is reported, and nothing crashes. NULL with length 0 is the empty text, and NULL for what is not wanted is accepted. */
+/* Arguments that no call accepts: NULL with a length, NULL handles, lengths that no object has, one document twice, a key in
+ * the buffer of the next one. Each is reported, and nothing crashes. NULL with length 0 is the empty text, and NULL for what is
+ * not wanted is accepted. */
 #include "tests.h"
+
+#include <math.h>
 
 #define BAD JSONPTR_BAD_ARGUMENT
 
@@ -18,7 +21,7 @@ static void check_bad(void) {
     EXPECT(jsonptr_pointer_count(NULL, 1, &length, &error), BAD);
     expect_number("status of the error", "NULL", error.status, BAD);
     expect_number("kind of the error", "NULL", error.kind, 0);
-    expect_message("NULL", &error, "an argument is NULL or too long, a flag is unknown, or one document is passed twice");
+    expect_message("NULL", &error, "an argument is NULL or too long, a flag is unknown, one document is passed twice, or a number is not finite");
     EXPECT(jsonptr_pointer_count("", huge, &length, NULL), BAD);
     EXPECT(jsonptr_pointer_token(NULL, 1, 0, out, 8, &length, NULL), BAD);
     EXPECT(jsonptr_pointer_token("/a", 2, 0, NULL, 8, &length, NULL), BAD);
@@ -34,6 +37,14 @@ static void check_bad(void) {
     length = 1;
     EXPECT(jsonptr_pointer_pop(NULL, &length, NULL), BAD);
     EXPECT(jsonptr_pointer_pop("", NULL, NULL), BAD);
+    EXPECT(jsonptr_pointer_from_fragment(NULL, 1, out, 8, &length, NULL), BAD);
+    EXPECT(jsonptr_pointer_from_fragment("#", huge, out, 8, &length, NULL), BAD);
+    EXPECT(jsonptr_pointer_from_fragment("#", 1, NULL, 8, &length, NULL), BAD);
+    EXPECT(jsonptr_pointer_from_fragment("#", 1, out, huge, &length, NULL), BAD);
+    EXPECT(jsonptr_pointer_to_fragment(NULL, 1, out, 8, &length, NULL), BAD);
+    EXPECT(jsonptr_pointer_to_fragment("", huge, out, 8, &length, NULL), BAD);
+    EXPECT(jsonptr_pointer_to_fragment("", 0, NULL, 8, &length, NULL), BAD);
+    EXPECT(jsonptr_pointer_to_fragment("", 0, out, huge, &length, NULL), BAD);
     EXPECT(jsonptr_document_parse(NULL, "1", 1, NULL), BAD);
     EXPECT(jsonptr_document_parse(&document, NULL, 1, NULL), BAD);
     EXPECT(jsonptr_document_parse(&document, "1", huge, NULL), BAD);
@@ -55,6 +66,41 @@ static void check_bad(void) {
     EXPECT(jsonptr_document_assign(NULL, "", 0, "1", 1, NULL), BAD);
     EXPECT(jsonptr_document_assign(&document, NULL, 1, "1", 1, NULL), BAD);
     EXPECT(jsonptr_document_assign(&document, "", 0, NULL, 1, NULL), BAD);
+    EXPECT(jsonptr_document_assign_string(NULL, "", 0, "a", 1, NULL), BAD);
+    EXPECT(jsonptr_document_assign_string(&document, NULL, 1, "a", 1, NULL), BAD);
+    EXPECT(jsonptr_document_assign_string(&document, "", huge, "a", 1, NULL), BAD);
+    EXPECT(jsonptr_document_assign_string(&document, "", 0, NULL, 1, NULL), BAD);
+    EXPECT(jsonptr_document_assign_string(&document, "", 0, "a", huge, NULL), BAD);
+    EXPECT(jsonptr_document_assign_integer(NULL, "", 0, 1, NULL), BAD);
+    EXPECT(jsonptr_document_assign_integer(&document, NULL, 1, 1, NULL), BAD);
+    EXPECT(jsonptr_document_assign_integer(&document, "", huge, 1, NULL), BAD);
+    EXPECT(jsonptr_document_assign_natural(NULL, "", 0, 1, NULL), BAD);
+    EXPECT(jsonptr_document_assign_natural(&document, NULL, 1, 1, NULL), BAD);
+    EXPECT(jsonptr_document_assign_natural(&document, "", huge, 1, NULL), BAD);
+    EXPECT(jsonptr_document_assign_number(NULL, "", 0, 1, NULL), BAD);
+    EXPECT(jsonptr_document_assign_number(&document, NULL, 1, 1, NULL), BAD);
+    EXPECT(jsonptr_document_assign_number(&document, "", huge, 1, NULL), BAD);
+    EXPECT(jsonptr_document_assign_number(&document, "", 0, NAN, NULL), BAD);
+    EXPECT(jsonptr_document_assign_number(&document, "", 0, INFINITY, NULL), BAD);
+    EXPECT(jsonptr_document_assign_number(&document, "", 0, -INFINITY, NULL), BAD);
+    EXPECT(jsonptr_document_assign_boolean(NULL, "", 0, true, NULL), BAD);
+    EXPECT(jsonptr_document_assign_boolean(&document, NULL, 1, true, NULL), BAD);
+    EXPECT(jsonptr_document_assign_boolean(&document, "", huge, true, NULL), BAD);
+    EXPECT(jsonptr_document_assign_null(NULL, "", 0, NULL), BAD);
+    EXPECT(jsonptr_document_assign_null(&document, NULL, 1, NULL), BAD);
+    EXPECT(jsonptr_document_assign_null(&document, "", huge, NULL), BAD);
+    EXPECT(jsonptr_document_first_key(NULL, "", 0, NULL, out, 8, &length, NULL), BAD);
+    EXPECT(jsonptr_document_first_key(&document, NULL, 1, NULL, out, 8, &length, NULL), BAD);
+    EXPECT(jsonptr_document_first_key(&document, "", huge, NULL, out, 8, &length, NULL), BAD);
+    EXPECT(jsonptr_document_first_key(&document, "", 0, NULL, NULL, 8, &length, NULL), BAD);
+    EXPECT(jsonptr_document_first_key(&document, "", 0, NULL, out, huge, &length, NULL), BAD);
+    EXPECT(jsonptr_document_next_key(NULL, "", 0, "a", 1, NULL, out, 8, &length, NULL), BAD);
+    EXPECT(jsonptr_document_next_key(&document, NULL, 1, "a", 1, NULL, out, 8, &length, NULL), BAD);
+    EXPECT(jsonptr_document_next_key(&document, "", huge, "a", 1, NULL, out, 8, &length, NULL), BAD);
+    EXPECT(jsonptr_document_next_key(&document, "", 0, NULL, 1, NULL, out, 8, &length, NULL), BAD);
+    EXPECT(jsonptr_document_next_key(&document, "", 0, "a", huge, NULL, out, 8, &length, NULL), BAD);
+    EXPECT(jsonptr_document_next_key(&document, "", 0, "a", 1, NULL, NULL, 8, &length, NULL), BAD);
+    EXPECT(jsonptr_document_next_key(&document, "", 0, "a", 1, NULL, out, huge, &length, NULL), BAD);
     EXPECT(jsonptr_document_delete(NULL, "", 0, NULL, NULL), BAD);
     EXPECT(jsonptr_document_delete(&document, NULL, 1, NULL, NULL), BAD);
     EXPECT(jsonptr_document_patch(NULL, "[]", 2, NULL), BAD);
@@ -132,6 +178,30 @@ static void check_bad(void) {
     jsonptr_text_free(&text);
 }
 
+/* A key in the buffer of the next one: each byte in common is too much. */
+static void check_overlaps(void) {
+    jsonptr_document document = parsed("{\"a\": 1, \"b\": 2}");
+    char bytes[12] = "aaaaaaaaaaaa";
+    jsonptr_error error;
+    for (size_t key = 0; key < 10; key++) {
+        for (size_t key_length = 0; key_length <= 2; key_length++) {
+            for (size_t capacity = 0; capacity <= 3; capacity++) {
+                size_t length = 99;
+                bool found = false, is_shared = key + key_length > 4 && key < 4 + capacity && key_length > 0 && capacity > 0;
+                memset(bytes, 'a', sizeof bytes);
+                jsonptr_status status = jsonptr_document_next_key(&document, "", 0, bytes + key, key_length, &found, bytes + 4, capacity,
+                                                                  &length, &error);
+                expect_number("status", "a key in the buffer", status, is_shared ? BAD : capacity == 0 ? JSONPTR_NO_ROOM : JSONPTR_OK);
+                expect_number("status of the error", "a key in the buffer", error.status, status);
+                expect_number("found", "a key in the buffer", found, status == JSONPTR_OK);
+                expect_number("length", "a key in the buffer", length, status == BAD ? 99 : 1);
+                expect_number("byte", "a key in the buffer", (unsigned char)bytes[4], status != JSONPTR_OK || key_length == 0 ? 'a' : 'b');
+            }
+        }
+    }
+    jsonptr_document_free(&document);
+}
+
 static void check_empty(void) {
     jsonptr_document document = parsed("[7]");
     jsonptr_text text = JSONPTR_TEXT_INIT;
@@ -163,6 +233,27 @@ static void check_empty(void) {
     EXPECT(jsonptr_document_patch_with_inverse(&document, "[]", 2, 0, out, 2, NULL, NULL), JSONPTR_OK);
     EXPECT(jsonptr_document_assign(&document, NULL, 0, "{}", 2, NULL), JSONPTR_OK);
     expect_document("NULL as the root", &document, "{}");
+    EXPECT(jsonptr_pointer_from_fragment(NULL, 0, NULL, 0, NULL, NULL), JSONPTR_NOT_FRAGMENT);
+    EXPECT(jsonptr_pointer_from_fragment("#", 1, NULL, 0, NULL, NULL), JSONPTR_OK);
+    EXPECT(jsonptr_pointer_to_fragment(NULL, 0, NULL, 0, &length, NULL), JSONPTR_NO_ROOM);
+    expect_number("length", "#", length, 1);
+    EXPECT(jsonptr_pointer_to_fragment(NULL, 0, out, 1, NULL, NULL), JSONPTR_OK);
+    EXPECT(jsonptr_document_first_key(&document, NULL, 0, NULL, NULL, 0, &length, NULL), JSONPTR_OK);
+    expect_number("length", "no key", length, 0);
+    EXPECT(jsonptr_document_assign_string(&document, "/", 1, NULL, 0, NULL), JSONPTR_OK);
+    EXPECT(jsonptr_document_first_key(&document, NULL, 0, NULL, NULL, 0, NULL, NULL), JSONPTR_OK);
+    EXPECT(jsonptr_document_next_key(&document, NULL, 0, NULL, 0, NULL, NULL, 0, NULL, NULL), JSONPTR_OK);
+    EXPECT(jsonptr_document_assign_null(&document, "/a", 2, NULL), JSONPTR_OK);
+    EXPECT(jsonptr_document_next_key(&document, NULL, 0, NULL, 0, NULL, NULL, 0, &length, NULL), JSONPTR_NO_ROOM);
+    expect_number("length", "a", length, 1);
+    expect_document("NULL as a string", &document, "{\"\":\"\",\"a\":null}");
+    EXPECT(jsonptr_document_assign_string(&document, NULL, 0, NULL, 0, NULL), JSONPTR_OK);
+    EXPECT(jsonptr_document_assign_integer(&document, NULL, 0, 7, NULL), JSONPTR_OK);
+    EXPECT(jsonptr_document_assign_natural(&document, NULL, 0, 7, NULL), JSONPTR_OK);
+    EXPECT(jsonptr_document_assign_number(&document, NULL, 0, 7, NULL), JSONPTR_OK);
+    EXPECT(jsonptr_document_assign_boolean(&document, NULL, 0, true, NULL), JSONPTR_OK);
+    EXPECT(jsonptr_document_assign_null(&document, NULL, 0, NULL), JSONPTR_OK);
+    expect_document("NULL as the root", &document, "null");
     EXPECT(jsonptr_resolve_in_text(NULL, 0, NULL, 0, 0, NULL, 0, NULL, NULL), JSONPTR_NOT_JSON);
     EXPECT(jsonptr_text_open(&text, JSONPTR_FORMAT_JSON, NULL, 0, NULL), JSONPTR_NOT_JSON);
     EXPECT(jsonptr_text_open(&text, JSONPTR_FORMAT_JSONC, "{}", 2, NULL), JSONPTR_OK);
@@ -202,7 +293,7 @@ static void check_empty(void) {
     } while (0)
 
 static void check_zero(void) {
-    jsonptr_document document = parsed("[\"abc\"]"), other = parsed("[]");
+    jsonptr_document document = parsed("[\"abc\"]"), other = parsed("[]"), object = parsed("{\"next\": 1, \"key\": 2}");
     jsonptr_text text = opened(JSONPTR_FORMAT_JSON, "[1.0]");
     jsonptr_error error = { .status = JSONPTR_NOT_JSON };
     char out[64];
@@ -211,6 +302,11 @@ static void check_zero(void) {
     ENDS("text is not JSON", jsonptr_error_message(&error, out, capacity, &n), (void)0);
     ENDS("~b", jsonptr_pointer_token("/~0b", 4, 0, out, capacity, &n, NULL), (void)0);
     ENDS("~1", jsonptr_pointer_escape("/", 1, out, capacity, NULL, NULL), (void)0);
+    ENDS("/a b", jsonptr_pointer_from_fragment("#/a%20b", 7, out, capacity, NULL, NULL), (void)0);
+    ENDS("#/a%20b", jsonptr_pointer_to_fragment("/a b", 4, out, capacity, &n, NULL), (void)0);
+    ENDS("key", jsonptr_document_first_key(&object, "", 0, NULL, out, capacity, &n, NULL), (void)0);
+    ENDS("next", jsonptr_document_next_key(&object, "", 0, "key", 3, &found, out, capacity, NULL, NULL), (void)0);
+    ENDS("", jsonptr_document_next_key(&object, "", 0, "next", 4, &found, out, capacity, &n, NULL), (void)0);
     ENDS("\"a\"", jsonptr_quote("a", 1, out, capacity, NULL, NULL), (void)0);
     ENDS("/a", (n = 0, jsonptr_pointer_push(out, capacity, &n, "a", 1, NULL)), n = 0);
     ENDS("[\"abc\"]", jsonptr_document_print(&document, 0, out, capacity, NULL, NULL), (void)0);
@@ -228,11 +324,13 @@ static void check_zero(void) {
     expect_number("first byte", "after an error", (unsigned char)out[0], '#');
     jsonptr_document_free(&document);
     jsonptr_document_free(&other);
+    jsonptr_document_free(&object);
     jsonptr_text_free(&text);
 }
 
 int main(void) {
     check_bad();
+    check_overlaps();
     check_zero();
     check_empty();
     return report("arguments");

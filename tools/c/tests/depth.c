@@ -222,6 +222,16 @@ static jsonptr_status call_assign(void) {
     return jsonptr_document_assign(&deepest, TEXT(tokens.bytes), "[]", 2, NULL);
 }
 
+static jsonptr_status call_assign_string(void) {
+    return jsonptr_document_assign_string(&deepest, TEXT(tokens.bytes), TEXT("text"), NULL);
+}
+
+/* The keys of a value that is an object or is not. */
+static jsonptr_status call_next_key(void) {
+    jsonptr_status status = jsonptr_document_next_key(&deepest, TEXT(tokens.bytes), TEXT("A"), NULL, out, OUT, NULL, NULL);
+    return status == JSONPTR_OTHER_TYPE ? JSONPTR_OK : status;
+}
+
 static jsonptr_status patch_with(const char *format) {
     char patch[256];
     int length = snprintf(patch, sizeof patch, format, first, second);
@@ -296,6 +306,8 @@ static const struct {
     { "string", call_string, JSONPTR_OTHER_TYPE, false },
     { "node", call_node, JSONPTR_OK, false },
     { "assign", call_assign, JSONPTR_OK, false },
+    { "assign a string", call_assign_string, JSONPTR_OK, false },
+    { "next key", call_next_key, JSONPTR_OK, false },
     { "delete", call_delete, JSONPTR_OK, false },
     { "patch: replace", call_replace, JSONPTR_OK, false },
     { "patch: copy", call_copy, JSONPTR_OK, false },
@@ -415,6 +427,8 @@ static const struct {
     { "resolve in a text", call_resolve_in_text, (size_t)256 << 10 },
     { "parse a text", call_read, (size_t)128 << 10 },
     { "print it", call_print, (size_t)128 << 10 },
+    { "next key", call_next_key, (size_t)128 << 10 },
+    { "assign a string", call_assign_string, (size_t)128 << 10 },
     { "free it", call_free, (size_t)128 << 10 },
 };
 

@@ -30,6 +30,30 @@ static bool moves() {
         && jsonptr_text_copy(texts[1].handle(), 0, 1, out, sizeof out, nullptr, nullptr) == JSONPTR_NO_DOCUMENT;
 }
 
+// Settings of a document, and its keys one after another.
+static bool lists() {
+    jsonptr::document document;
+    const std::string name = "a \"name\"";
+    char keys[2][16];
+    std::size_t length = 0;
+    bool found = false;
+    std::string all;
+    if (jsonptr_document_parse(document.handle(), "{}", 2, nullptr) != JSONPTR_OK
+        || jsonptr_document_assign_string(document.handle(), "/name", 5, name.data(), name.size(), nullptr) != JSONPTR_OK
+        || jsonptr_document_assign_number(document.handle(), "/big", 4, 1.5, nullptr) != JSONPTR_OK
+        || jsonptr_document_first_key(document.handle(), "", 0, &found, keys[0], sizeof keys[0], &length, nullptr) != JSONPTR_OK) {
+        return false;
+    }
+    for (int at = 0; found; at = 1 - at) {
+        all.append(keys[at], length).append("|");
+        if (jsonptr_document_next_key(document.handle(), "", 0, keys[at], length, &found, keys[1 - at], sizeof keys[0], &length, nullptr)
+            != JSONPTR_OK) {
+            return false;
+        }
+    }
+    return all == "big|name|";
+}
+
 int main() {
     jsonptr_document document = JSONPTR_DOCUMENT_INIT;
     const std::string text = R"({"sizes": [3, 5]})", pointer = "/sizes/1";
@@ -42,7 +66,7 @@ int main() {
         return 1;
     }
     jsonptr_document_free(&document);
-    if (!moves()) {
+    if (!moves() || !lists()) {
         return 1;
     }
     std::cout << "header: passed\n";

@@ -86,6 +86,66 @@ static jsonptr_status assign(state *s) {
     return jsonptr_document_assign(&s->document, TEXT("/new~1member/-/of/0"), TEXT("[\"a value\", {}]"), NULL);
 }
 
+static jsonptr_status assign_string(state *s) {
+    return jsonptr_document_assign_string(&s->document, TEXT("/new~1member/-/of/0"), TEXT("a \"string\" that is stored"), NULL);
+}
+
+static jsonptr_status not_assign_string(state *s) {
+    jsonptr_status status = jsonptr_document_assign_string(&s->document, TEXT("/a~1b/9"), TEXT("a string that is stored"), NULL);
+    return status == JSONPTR_NOT_ASSIGNED ? JSONPTR_OK : status;
+}
+
+static jsonptr_status assign_integer(state *s) {
+    return jsonptr_document_assign_integer(&s->document, TEXT("/new~1member/0/of"), INT64_MIN, NULL);
+}
+
+static jsonptr_status assign_natural(state *s) {
+    return jsonptr_document_assign_natural(&s->document, TEXT("/a~1b/-"), UINT64_MAX, NULL);
+}
+
+static jsonptr_status assign_number(state *s) {
+    return jsonptr_document_assign_number(&s->document, TEXT("/a~1b/1/d/e"), 0.1, NULL);
+}
+
+static jsonptr_status assign_boolean(state *s) {
+    return jsonptr_document_assign_boolean(&s->document, TEXT("/long key that is stored/2/another key that is stored"), true, NULL);
+}
+
+static jsonptr_status assign_null(state *s) {
+    return jsonptr_document_assign_null(&s->document, TEXT("/a~1b/0/-/-"), NULL);
+}
+
+/* Results that an error leaves. */
+static jsonptr_status first_key(state *s) {
+    bool found = false;
+    size_t length = 99;
+    s->out[0] = '!';
+    jsonptr_status status = jsonptr_document_first_key(&s->document, TEXT("/a~1b/1"), &found, s->out, sizeof s->out, &length, NULL);
+    expect_number("found", "first_key", found, status == JSONPTR_OK);
+    expect_number("length", "first_key", length, status == JSONPTR_OK ? 1 : 99);
+    expect_number("byte", "first_key", (unsigned char)s->out[0], status == JSONPTR_OK ? 'c' : '!');
+    return status;
+}
+
+static jsonptr_status next_key(state *s) {
+    bool found = false;
+    size_t length = 99;
+    s->out[0] = '!';
+    jsonptr_status status = jsonptr_document_next_key(&s->document, TEXT(""), TEXT("a key that is not in the object"), &found, s->out,
+                                                      sizeof s->out, &length, NULL);
+    expect_number("found", "next_key", found, status == JSONPTR_OK);
+    expect_number("length", "next_key", length, status == JSONPTR_OK ? 3 : 99);
+    expect_number("byte", "next_key", (unsigned char)s->out[0], status == JSONPTR_OK ? 'a' : '!');
+    return status;
+}
+
+static jsonptr_status no_next_key(state *s) {
+    bool found = true;
+    jsonptr_status status = jsonptr_document_next_key(&s->document, TEXT("/a~1b/1"), TEXT("c"), &found, s->out, sizeof s->out, NULL, NULL);
+    expect_number("found", "no_next_key", found, status != JSONPTR_OK);
+    return status;
+}
+
 static jsonptr_status delete(state *s) {
     return jsonptr_document_delete(&s->document, TEXT("/a~1b/0"), NULL, NULL);
 }
@@ -267,6 +327,25 @@ static jsonptr_status token(state *s) {
     return jsonptr_pointer_token(TEXT("/a~1b"), 0, s->out, sizeof s->out, NULL, NULL);
 }
 
+static jsonptr_status from_fragment(state *s) {
+    size_t length = 99;
+    jsonptr_status status = jsonptr_pointer_from_fragment(TEXT("#/a~1b/%C3%BC/a%20token%20that%20is%20stored"), s->out, sizeof s->out, &length, NULL);
+    expect_number("length", "from_fragment", length, status == JSONPTR_OK ? 31 : 99);
+    return status;
+}
+
+static jsonptr_status not_from_fragment(state *s) {
+    jsonptr_status status = jsonptr_pointer_from_fragment(TEXT("#/a~1b/%C3%BC/a%20token~that%20is%20stored"), s->out, sizeof s->out, NULL, NULL);
+    return status == JSONPTR_NOT_FRAGMENT ? JSONPTR_OK : status;
+}
+
+static jsonptr_status to_fragment(state *s) {
+    size_t length = 99;
+    jsonptr_status status = jsonptr_pointer_to_fragment(TEXT("/a~1b/\xc3\xbc/a token that is stored"), s->out, sizeof s->out, &length, NULL);
+    expect_number("length", "to_fragment", length, status == JSONPTR_OK ? 44 : 99);
+    return status;
+}
+
 static jsonptr_status escape(state *s) {
     return jsonptr_pointer_escape(TEXT("a/b"), s->out, sizeof s->out, NULL, NULL);
 }
@@ -290,6 +369,10 @@ static const struct {
     jsonptr_status (*call)(state *);
 } calls[] = {
     { "parse", parse }, { "exact", exact }, { "not_exact", not_exact }, { "lost_number", lost_number }, { "not_json", not_json }, { "not_located", not_located }, { "print", print }, { "get", get }, { "string", string }, { "node", node }, { "assign", assign },
+    { "assign_string", assign_string }, { "not_assign_string", not_assign_string }, { "assign_integer", assign_integer },
+    { "assign_natural", assign_natural }, { "assign_number", assign_number }, { "assign_boolean", assign_boolean },
+    { "assign_null", assign_null }, { "first_key", first_key }, { "next_key", next_key }, { "no_next_key", no_next_key },
+    { "from_fragment", from_fragment }, { "not_from_fragment", not_from_fragment }, { "to_fragment", to_fragment },
     { "delete", delete }, { "patch", patch }, { "fail", fail }, { "inverse", inverse }, { "diff", diff }, { "in_text", in_text },
     { "locate", locate }, { "pointer_at", pointer_at }, { "no_value", no_value }, { "token", token },
     { "open_text", open_text }, { "open_json", open_json }, { "open_none", open_none }, { "assign_text", assign_text },

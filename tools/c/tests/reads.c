@@ -70,6 +70,10 @@ static void read_all(void) {
             expect_number("status of getting", POINTERS[i], status, error.status);
             status = jsonptr_document_string(&kept->from, TEXT(POINTERS[i]), out, room, &length, &error);
             expect_number("status of a string", POINTERS[i], status, error.status);
+            status = jsonptr_document_first_key(&kept->from, TEXT(POINTERS[i]), NULL, out, room / 64, &length, &error);
+            expect_number("status of the first key", POINTERS[i], status, error.status);
+            status = jsonptr_document_next_key(&kept->from, TEXT(POINTERS[i]), "b", 1, NULL, out, room / 64, &length, &error);
+            expect_number("status of the next key", POINTERS[i], status, error.status);
         }
         jsonptr_status status = jsonptr_document_node(&kept->from, TEXT(POINTERS[i]), &node, &error);
         expect_number("status of a node", POINTERS[i], status, error.status);

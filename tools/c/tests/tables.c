@@ -1,6 +1,8 @@
 /* Tables of calls and results. The values are from RFC 6901, RFC 6902 and the documentation of the Rust crate. */
 #include "tests.h"
 
+#include <math.h>
+
 #define COUNT(table) (sizeof(table) / sizeof *(table))
 
 /* The document of RFC 6901, section 5, what its pointers evaluate to, and where these values are. */
@@ -139,6 +141,137 @@ static void check_tokens(void) {
     }
     expect_number("length", "the root", path_length, 0);
     expect_number("status of the pop", "the root", jsonptr_pointer_pop(path, &path_length, &error), JSONPTR_NO_TOKEN);
+}
+
+/* Checks the fields of an error that can differ from 0, except its operation. */
+static void expect_fields(const char *about, const jsonptr_error *error, const jsonptr_error *wanted) {
+    expect_number("status of the error", about, error->status, wanted->status);
+    expect_number("kind", about, error->kind, wanted->kind);
+    expect_number("member", about, error->member, wanted->member);
+    expect_number("position", about, error->position, wanted->position);
+    expect_number("slash", about, error->slash, wanted->slash);
+    expect_number("offset", about, error->offset, wanted->offset);
+    expect_number("length of the error", about, error->length, wanted->length);
+    expect_number("other fields", about, error->reserved + error->operation + error->reserved_2 + error->reserved_3, 0);
+}
+
+/* Pointers, their fragments, and another fragment of each: the table of RFC 6901, section 6, and what RFC 3986 allows. */
+static const struct {
+    const char *pointer, *fragment, *other;
+} fragments[] = {
+    { "", "#", "#" },
+    { "/foo", "#/foo", "#%2Ffoo" },
+    { "/foo/0", "#/foo/0", "#%2ffoo%2f%30" },
+    { "/", "#/", "#%2F" },
+    { "/a~1b", "#/a~1b", "#/a%7E1b" },
+    { "/c%d", "#/c%25d", "#/c%25%64" },
+    { "/e^f", "#/e%5Ef", "#/e%5ef" },
+    { "/g|h", "#/g%7Ch", "#/g%7ch" },
+    { "/i\\j", "#/i%5Cj", "#/i%5cj" },
+    { "/k\"l", "#/k%22l", "#/%6b%22l" },
+    { "/ ", "#/%20", "#%2f%20" },
+    { "/m~0n", "#/m~0n", "#/m%7e0n" },
+    { "/\xc3\xbc", "#/%C3%BC", "#/%c3%bC" },
+    { "/aZ09-._~0!$&'()*+,;=:@?", "#/aZ09-._~0!$&'()*+,;=:@?", "#%2FaZ09%2d._%7e0!$&'()*+,;=:%40?" },
+    { "/#[]{}<>`", "#/%23%5B%5D%7B%7D%3C%3E%60", "#%2f%23%5b%5d%7b%7d%3c%3e%60" },
+    { "/\x7f\x01\xf4\x8f\xbf\xbf", "#/%7F%01%F4%8F%BF%BF", "#/%7f%01%f4%8f%bf%bf" },
+};
+
+/* Texts that are not the fragment of a pointer, each with its error and the end of the message. */
+static const struct {
+    const char *text;
+    jsonptr_error error;
+    const char *message;
+} no_fragments[] = {
+    { "", { .kind = JSONPTR_KIND_NO_HASH }, "does not start with `#`" },
+    { "/foo", { .kind = JSONPTR_KIND_NO_HASH }, "does not start with `#`" },
+    { "##", { .kind = JSONPTR_KIND_BAD_BYTE, .offset = 1 }, "a byte that must be percent-encoded at byte 1" },
+    { "#/a b", { .kind = JSONPTR_KIND_BAD_BYTE, .offset = 3 }, "a byte that must be percent-encoded at byte 3" },
+    { "#/%20\xc3\xbc", { .kind = JSONPTR_KIND_BAD_BYTE, .offset = 5 }, "a byte that must be percent-encoded at byte 5" },
+    { "#/a\"%", { .kind = JSONPTR_KIND_BAD_BYTE, .offset = 3 }, "a byte that must be percent-encoded at byte 3" },
+    { "#%", { .kind = JSONPTR_KIND_BAD_PERCENT, .offset = 1 }, "`%` without two hexadecimal digits at byte 1" },
+    { "#/100%", { .kind = JSONPTR_KIND_BAD_PERCENT, .offset = 5 }, "`%` without two hexadecimal digits at byte 5" },
+    { "#/%20%g0 ", { .kind = JSONPTR_KIND_BAD_PERCENT, .offset = 5 }, "`%` without two hexadecimal digits at byte 5" },
+    { "#/%2", { .kind = JSONPTR_KIND_BAD_PERCENT, .offset = 2 }, "`%` without two hexadecimal digits at byte 2" },
+    { "#/a%ff", { .kind = JSONPTR_KIND_ENCODED_NOT_UTF8, .offset = 3 }, "not UTF-8 at byte 3" },
+    { "#/%C3%BC%41%C3", { .kind = JSONPTR_KIND_ENCODED_NOT_UTF8, .offset = 11 }, "not UTF-8 at byte 11" },
+    { "#~%C3%28", { .kind = JSONPTR_KIND_ENCODED_NOT_UTF8, .offset = 2 }, "not UTF-8 at byte 2" },
+    { "#foo", { .kind = JSONPTR_KIND_NO_LEADING_SLASH, .offset = 1 },
+      "json pointer failed to parse; does not start with a slash ('/') and is not empty, at byte 1" },
+    { "#%66oo", { .kind = JSONPTR_KIND_NO_LEADING_SLASH, .offset = 1 },
+      "json pointer failed to parse; does not start with a slash ('/') and is not empty, at byte 1" },
+    { "#/%20/~2", { .kind = JSONPTR_KIND_BAD_ESCAPE, .slash = 2, .offset = 6 },
+      "json pointer failed to parse; the first token in the partial-pointer starting at offset 2 is malformed, at byte 6" },
+    { "#%2Fa%7Eb", { .kind = JSONPTR_KIND_BAD_ESCAPE, .slash = 0, .offset = 5 },
+      "json pointer failed to parse; the first token in the partial-pointer starting at offset 0 is malformed, at byte 5" },
+    { "#/~0/%7e", { .kind = JSONPTR_KIND_BAD_ESCAPE, .slash = 3, .offset = 5 },
+      "json pointer failed to parse; the first token in the partial-pointer starting at offset 3 is malformed, at byte 5" },
+};
+
+typedef jsonptr_status convert(const char *, size_t, char *, size_t, size_t *, jsonptr_error *);
+
+/* Checks the result of a conversion, in a long buffer, in one of its length, and in a shorter one. */
+static void expect_converted(convert *call, const char *text, const char *wanted) {
+    static const jsonptr_error no_error;
+    const size_t needed = strlen(wanted), capacities[] = { 64, needed };
+    size_t length = 99;
+    jsonptr_error error;
+    char out[64];
+    for (size_t i = 0; i < COUNT(capacities); i++) {
+        memset(out, '!', sizeof out);
+        expect_number("status", text, call(TEXT(text), out, capacities[i], &length, &error), JSONPTR_OK);
+        expect_text("result", text, out, length, wanted);
+        expect_number("byte after the result", text, (unsigned char)out[needed], capacities[i] > needed ? 0 : '!');
+        expect_fields(text, &error, &no_error);
+    }
+    if (needed == 0) {
+        return;
+    }
+    memset(out, '!', sizeof out);
+    expect_number("status of a short buffer", text, call(TEXT(text), out, needed - 1, &length, &error), JSONPTR_NO_ROOM);
+    expect_number("length of a short buffer", text, length, needed);
+    expect_fields(text, &error, &(jsonptr_error){ .status = JSONPTR_NO_ROOM, .length = needed });
+    expect_number("first byte of a short buffer", text, (unsigned char)out[0], '!');
+}
+
+/* Checks the error of a conversion, which leaves the buffer and the length. */
+static void expect_not_converted(convert *call, const char *text, const jsonptr_error *wanted) {
+    size_t length = 99;
+    jsonptr_error error;
+    char out[4] = "!!!!";
+    expect_number("status", text, call(TEXT(text), out, sizeof out, &length, &error), wanted->status);
+    expect_fields(text, &error, wanted);
+    expect_number("length after an error", text, length, 99);
+    expect_text("buffer after an error", text, out, sizeof out, "!!!!");
+}
+
+static void check_fragments(void) {
+    for (size_t i = 0; i < COUNT(fragments); i++) {
+        expect_converted(jsonptr_pointer_to_fragment, fragments[i].pointer, fragments[i].fragment);
+        expect_converted(jsonptr_pointer_from_fragment, fragments[i].fragment, fragments[i].pointer);
+        expect_converted(jsonptr_pointer_from_fragment, fragments[i].other, fragments[i].pointer);
+    }
+    for (size_t i = 0; i < COUNT(no_fragments); i++) {
+        char message[256];
+        jsonptr_error wanted = no_fragments[i].error;
+        wanted.status = JSONPTR_NOT_FRAGMENT;
+        expect_not_converted(jsonptr_pointer_from_fragment, no_fragments[i].text, &wanted);
+        snprintf(message, sizeof message, "not a URI fragment of a JSON Pointer: %s", no_fragments[i].message);
+        expect_message(no_fragments[i].text, &wanted, message);
+    }
+    expect_not_converted(jsonptr_pointer_from_fragment, "#/%20\xff",
+                         &(jsonptr_error){ .status = JSONPTR_NOT_UTF8, .member = JSONPTR_ARGUMENT_TEXT, .offset = 5 });
+    expect_not_converted(jsonptr_pointer_from_fragment, "/\xc3",
+                         &(jsonptr_error){ .status = JSONPTR_NOT_UTF8, .member = JSONPTR_ARGUMENT_TEXT, .offset = 1 });
+    for (size_t i = 0; i < COUNT(pointers); i++) {
+        if (pointers[i].status != JSONPTR_OK) {
+            expect_not_converted(jsonptr_pointer_to_fragment, pointers[i].text, &(jsonptr_error){
+                .status = pointers[i].status, .kind = pointers[i].kind,
+                .member = pointers[i].status == JSONPTR_NOT_UTF8 ? JSONPTR_ARGUMENT_POINTER : 0,
+                .position = pointers[i].position, .slash = pointers[i].slash, .offset = pointers[i].offset,
+                .length = pointers[i].length });
+        }
+    }
 }
 
 /* Pointers that do not resolve. */
@@ -542,6 +675,299 @@ static void check_assignments(void) {
     }
 }
 
+/* Values that need no JSON text to be assigned, and the text of each. */
+enum type { STRING, INTEGER, NATURAL, NUMBER, BOOLEAN, NOTHING };
+
+static const struct {
+    enum type type;
+    const char *string;
+    int64_t integer;
+    uint64_t natural;
+    double number;
+    bool boolean;
+    const char *text;
+} settings[] = {
+    { STRING, .string = "", .text = "\"\"" },
+    { STRING, .string = "a\"b\\c/d", .text = "\"a\\\"b\\\\c/d\"" },
+    { STRING, .string = "\n\t\x01\x7f\xc3\xa9", .text = "\"\\n\\t\\u0001\x7f\xc3\xa9\"" },
+    { INTEGER, .integer = 0, .text = "0" },
+    { INTEGER, .integer = -7, .text = "-7" },
+    { INTEGER, .integer = INT64_MIN, .text = "-9223372036854775808" },
+    { INTEGER, .integer = INT64_MAX, .text = "9223372036854775807" },
+    { NATURAL, .natural = 0, .text = "0" },
+    { NATURAL, .natural = UINT64_MAX, .text = "18446744073709551615" },
+    { NUMBER, .number = 0.0, .text = "0.0" },
+    { NUMBER, .number = -0.0, .text = "-0.0" },
+    { NUMBER, .number = 3, .text = "3.0" },
+    { NUMBER, .number = 0.1 + 0.2, .text = "0.30000000000000004" },
+    { NUMBER, .number = 12345678901234567890123.0, .text = "1.2345678901234568e+22" },
+    { NUMBER, .number = 5e-324, .text = "5e-324" },
+    { NUMBER, .number = -1.7976931348623157e308, .text = "-1.7976931348623157e+308" },
+    { BOOLEAN, .boolean = true, .text = "true" },
+    { BOOLEAN, .boolean = false, .text = "false" },
+    { NOTHING, .text = "null" },
+};
+
+/* Assigns a value by the call of its type. */
+static jsonptr_status set(jsonptr_document *document, const char *pointer, size_t length, size_t i, jsonptr_error *error) {
+    switch (settings[i].type) {
+    case STRING:
+        return jsonptr_document_assign_string(document, pointer, length, TEXT(settings[i].string), error);
+    case INTEGER:
+        return jsonptr_document_assign_integer(document, pointer, length, settings[i].integer, error);
+    case NATURAL:
+        return jsonptr_document_assign_natural(document, pointer, length, settings[i].natural, error);
+    case NUMBER:
+        return jsonptr_document_assign_number(document, pointer, length, settings[i].number, error);
+    case BOOLEAN:
+        return jsonptr_document_assign_boolean(document, pointer, length, settings[i].boolean, error);
+    default:
+        return jsonptr_document_assign_null(document, pointer, length, error);
+    }
+}
+
+/* Where values are assigned, the document after that with %s for the value, and the pointer of the value in it. */
+static const struct {
+    const char *document, *pointer, *after, *found;
+} places[] = {
+    { "[1, {}]", "", "%s", "" },
+    { "{}", "/a", "{\"a\":%s}", "/a" },
+    { "{\"a\": 1, \"b\": 2}", "/a", "{\"a\":%s,\"b\":2}", "/a" },
+    { "[3]", "/-", "[3,%s]", "/1" },
+    { "[3, 5]", "/0", "[%s,5]", "/0" },
+    { "{\"a\": \"text\"}", "/a/x~1y/0/-", "{\"a\":{\"x/y\":[[%s]]}}", "/a/x~1y/0/0" },
+    { "{\"\": {}}", "//~0", "{\"\":{\"~\":%s}}", "//~0" },
+};
+
+/* Where no value can be assigned. */
+static const struct {
+    const char *document, *pointer;
+    jsonptr_error error;
+} no_places[] = {
+    { "[3]", "/2", { .status = JSONPTR_NOT_ASSIGNED, .kind = JSONPTR_KIND_INDEX_ABOVE_LENGTH, .offset = 1, .length = 1 } },
+    { "{\"a\":[3]}", "/a/first/x", { .status = JSONPTR_NOT_ASSIGNED, .kind = JSONPTR_KIND_NOT_A_NEW_INDEX, .position = 1, .slash = 2,
+                                     .offset = 3, .length = 5 } },
+    { "[3]", "0", { .status = JSONPTR_NOT_POINTER, .kind = JSONPTR_KIND_NO_LEADING_SLASH } },
+    { "[3]", "/a/~b", { .status = JSONPTR_NOT_POINTER, .kind = JSONPTR_KIND_BAD_ESCAPE, .position = 1, .slash = 2, .offset = 3, .length = 2 } },
+    { "[3]", "/\xff", { .status = JSONPTR_NOT_UTF8, .member = JSONPTR_ARGUMENT_POINTER, .offset = 1 } },
+};
+
+/* Checks a value that is assigned at each place, beside its text that is assigned there. */
+static void check_setting(size_t i) {
+    static const jsonptr_error no_error;
+    const char *value = settings[i].text;
+    char out[64], after[128];
+    size_t length = 0;
+    jsonptr_error error;
+    for (size_t at = 0; at < COUNT(places); at++) {
+        jsonptr_document document = parsed(places[at].document), other = parsed(places[at].document);
+        expect_number("status of setting", value, set(&document, TEXT(places[at].pointer), i, &error), JSONPTR_OK);
+        expect_fields(value, &error, &no_error);
+        expect_number("status of getting", value,
+                      jsonptr_document_get(&document, TEXT(places[at].found), 0, out, sizeof out, &length, NULL), JSONPTR_OK);
+        expect_text("value", places[at].pointer, out, length, value);
+        snprintf(after, sizeof after, places[at].after, value);
+        expect_document(places[at].pointer, &document, after);
+        expect_number("status of assigning", value,
+                      jsonptr_document_assign(&other, TEXT(places[at].pointer), TEXT(value), NULL), JSONPTR_OK);
+        expect_number("difference", value, jsonptr_document_diff(&document, &other, 0, out, sizeof out, &length, NULL), JSONPTR_OK);
+        expect_text("difference", value, out, length, "[]");
+        jsonptr_document_free(&document);
+        jsonptr_document_free(&other);
+    }
+    for (size_t at = 0; at < COUNT(no_places); at++) {
+        jsonptr_document document = parsed(no_places[at].document);
+        expect_number("status of setting", value, set(&document, TEXT(no_places[at].pointer), i, &error), no_places[at].error.status);
+        expect_fields(no_places[at].pointer, &error, &no_places[at].error);
+        expect_document(no_places[at].pointer, &document, no_places[at].document);
+        jsonptr_document_free(&document);
+        expect_number("status in no document", value, set(&document, TEXT(no_places[at].pointer), i, &error), JSONPTR_NO_DOCUMENT);
+        expect_fields(value, &error, &(jsonptr_error){ .status = JSONPTR_NO_DOCUMENT });
+    }
+}
+
+/* Checks what is looked at before the document, zeros in a string, and the longest pointers. */
+static void check_setters(void) {
+    static char deep[20002];
+    jsonptr_document document = parsed("{}"), empty = JSONPTR_DOCUMENT_INIT;
+    jsonptr_error error;
+    jsonptr_node node;
+    for (size_t i = 0; i < COUNT(settings); i++) {
+        check_setting(i);
+    }
+    const double not_finite[] = { NAN, -NAN, INFINITY, -INFINITY };
+    for (size_t i = 0; i < COUNT(not_finite); i++) {
+        expect_number("status", "a number that is not finite", jsonptr_document_assign_number(&document, "x", 1, not_finite[i], &error),
+                      JSONPTR_BAD_ARGUMENT);
+        expect_fields("a number that is not finite", &error, &(jsonptr_error){ .status = JSONPTR_BAD_ARGUMENT });
+        expect_number("status", "in no document", jsonptr_document_assign_number(&empty, "", 0, not_finite[i], NULL), JSONPTR_BAD_ARGUMENT);
+    }
+    const jsonptr_error not_utf8 = { .status = JSONPTR_NOT_UTF8, .member = JSONPTR_ARGUMENT_TEXT, .offset = 2 };
+    expect_number("status", "not UTF-8", jsonptr_document_assign_string(&document, "\xff", 1, TEXT("ab\xc3"), &error), JSONPTR_NOT_UTF8);
+    expect_fields("not UTF-8", &error, &not_utf8);
+    expect_number("status", "not UTF-8", jsonptr_document_assign_string(&empty, "", 0, TEXT("ab\xc3"), &error), JSONPTR_NOT_UTF8);
+    expect_fields("not UTF-8", &error, &not_utf8);
+    expect_document("errors", &document, "{}");
+    expect_number("status", "a zero", jsonptr_document_assign_string(&document, "/a", 2, "a\0b", 3, NULL), JSONPTR_OK);
+    expect_document("a zero", &document, "{\"a\":\"a\\u0000b\"}");
+    expect_number("status", "3.0", jsonptr_document_assign_number(&document, "/a", 2, 3, NULL), JSONPTR_OK);
+    expect_number("status", "3.0", jsonptr_document_node(&document, "/a", 2, &node, NULL), JSONPTR_OK);
+    expect_number("has_integer", "3.0", node.has_integer || node.has_natural || node.number != 3, 0);
+    expect_number("status", "3", jsonptr_document_assign_integer(&document, "/a", 2, 3, NULL), JSONPTR_OK);
+    expect_number("status", "3", jsonptr_document_node(&document, "/a", 2, &node, NULL), JSONPTR_OK);
+    expect_number("has_integer", "3", node.has_integer && node.has_natural && node.integer == 3, 1);
+    for (size_t i = 0; i < sizeof deep; i++) {
+        deep[i] = i % 2 == 0 ? '/' : 'a';
+    }
+    for (size_t i = 0; i < COUNT(settings); i++) {
+        expect_number("10,001 tokens", settings[i].text, set(&document, deep, 20002, i, &error), JSONPTR_TOO_DEEP);
+        expect_fields("10,001 tokens", &error, &(jsonptr_error){ .status = JSONPTR_TOO_DEEP });
+        expect_document("10,001 tokens", &document, "{\"a\":3}");
+    }
+    expect_number("10,000 tokens", "null", jsonptr_document_assign_null(&document, deep, 20000, NULL), JSONPTR_OK);
+    expect_number("10,000 tokens", "null", jsonptr_document_node(&document, deep, 20000, &node, NULL), JSONPTR_OK);
+    expect_number("type", "null", node.type, JSONPTR_TYPE_NULL);
+    jsonptr_document_free(&document);
+}
+
+/* Objects, and their keys in order, each with a '|' after it. */
+static const struct {
+    const char *document, *pointer, *keys;
+} objects[] = {
+    { "{}", "", "" },
+    { "{\"a\": 1}", "", "a|" },
+    { "{\"\": 1}", "", "|" },
+    { "{\"b\": 1, \"\": 2, \"a\": 3, \"ab\": 4, \"B\": 5, \"10\": 6, \"9\": 7}", "", "|10|9|B|a|ab|b|" },
+    { "{\"~\": 1, \"/\": 2, \"~1\": 3, \"a/b\": 4, \" \": 5, \"\\n\": 6}", "", "\n| |/|a/b|~|~1|" },
+    { "{\"\\ud800\\udf48\": 1, \"z\": 2, \"\\u00e9\": 3, \"\\uffff\": 4}", "", "z|\xc3\xa9|\xef\xbf\xbf|\xf0\x90\x8d\x88|" },
+    { "{\"o\": {\"k\": [0, {\"y\": 1, \"x\": 2}]}}", "/o/k/1", "x|y|" },
+    { "{\"a/b\": {\"c\": 1}, \"d\": 2}", "/a~1b", "c|" },
+    { "{\"a\": 1, \"\\u0061\": 2, \"c\": 3}", "", "a|c|" },
+};
+
+/* Checks the keys of an object, each of which is that of a member, and is found again after any key between the last one and it. */
+static void check_keys_of(size_t i) {
+    static const jsonptr_error no_error;
+    const char *pointer = objects[i].pointer, *about = objects[i].document;
+    jsonptr_document document = parsed(about);
+    jsonptr_error error;
+    char keys[2][16], path[64], all[64] = "";
+    size_t length = 0, path_length, count = 0;
+    bool found = false;
+    jsonptr_node node;
+    int at = 0;
+    expect_number("status", about, jsonptr_document_first_key(&document, TEXT(pointer), &found, keys[0], 16, &length, &error), JSONPTR_OK);
+    while (found) {
+        expect_fields(about, &error, &no_error);
+        expect_number("zero after a key", about, (unsigned char)keys[at][length], 0);
+        strcat(strcat(all, keys[at]), "|");
+        count++;
+        path_length = strlen(strcpy(path, pointer));
+        expect_number("status of a pointer", about, jsonptr_pointer_push(path, sizeof path, &path_length, keys[at], length, NULL), JSONPTR_OK);
+        expect_number("status of a member", path, jsonptr_document_node(&document, path, path_length, &node, NULL), JSONPTR_OK);
+        found = false;
+        expect_number("status", about, jsonptr_document_next_key(&document, TEXT(pointer), keys[at], length, &found, keys[!at], 16, &length,
+                                                                 &error), JSONPTR_OK);
+        at = !at;
+    }
+    expect_fields(about, &error, &no_error);
+    expect_number("length at the end", about, length, 0);
+    expect_text("keys", about, all, strlen(all), objects[i].keys);
+    expect_number("status of the object", about, jsonptr_document_node(&document, TEXT(pointer), &node, NULL), JSONPTR_OK);
+    expect_number("members", about, node.length, count);
+    jsonptr_document_free(&document);
+}
+
+/* Checks an error of both calls, which leaves the buffer, the length, whether a key was found, and the document. */
+static void expect_no_keys(jsonptr_document *document, const char *pointer, const jsonptr_error *wanted) {
+    for (int call = 0; call < 4; call++) {
+        char out[2] = "!!";
+        size_t length = 99;
+        bool found = call % 2 != 0;
+        jsonptr_error error;
+        jsonptr_status status = call < 2 ? jsonptr_document_first_key(document, TEXT(pointer), &found, out, 2, &length, &error)
+            : jsonptr_document_next_key(document, TEXT(pointer), "A", 1, &found, out, 2, &length, &error);
+        expect_number("status", pointer, status, wanted->status);
+        expect_fields(pointer, &error, wanted);
+        expect_number("found after an error", pointer, found, call % 2 != 0);
+        expect_number("length after an error", pointer, length, status == JSONPTR_NO_ROOM ? wanted->length : 99);
+        expect_text("buffer after an error", pointer, out, 2, "!!");
+    }
+}
+
+static void check_keys(void) {
+    for (size_t i = 0; i < COUNT(objects); i++) {
+        check_keys_of(i);
+    }
+    jsonptr_document document = parsed("{\"b\": 1, \"d\\u0000d\": [1, \"text\", null, 2.5, true, []], \"f\": 3}"), empty = JSONPTR_DOCUMENT_INIT;
+    static const struct {
+        const char *key, *next;
+    } between[] = { { "", "b" }, { "a", "b" }, { "b", "d\0d" }, { "ba", "d\0d" }, { "d", "d\0d" }, { "d\x01", "f" }, { "c~/", "d\0d" },
+                    { "e", "f" }, { "f", NULL }, { "fa", NULL }, { "\xc3\xa9", NULL } };
+    jsonptr_error error;
+    char out[8];
+    size_t length = 0;
+    bool found = false;
+    for (size_t i = 0; i < COUNT(between); i++) {
+        const char *key = between[i].key, *next = between[i].next;
+        size_t wanted = next == NULL ? 0 : next[0] == 'd' ? 3 : 1;
+        memset(out, '!', sizeof out);
+        found = next == NULL;
+        expect_number("status", key, jsonptr_document_next_key(&document, "", 0, TEXT(key), &found, out, sizeof out, &length, &error), JSONPTR_OK);
+        expect_number("found", key, found, next != NULL);
+        expect_number("length", key, length, wanted);
+        expect_number("key", key, next == NULL || memcmp(out, next, wanted) == 0, 1);
+        expect_number("byte after the key", key, (unsigned char)out[wanted], 0);
+        expect_number("byte after that", key, (unsigned char)out[wanted + 1], '!');
+        expect_number("status of the error", key, error.status, JSONPTR_OK);
+    }
+    expect_number("status after a zero", "d", jsonptr_document_next_key(&document, "", 0, "d\0d", 3, &found, out, 1, &length, NULL), JSONPTR_OK);
+    expect_text("key after a zero", "d", out, length, "f");
+    expect_number("status at the end", "f", jsonptr_document_next_key(&document, "", 0, "f", 1, &found, NULL, 0, &length, NULL), JSONPTR_OK);
+    expect_number("found at the end", "f", found, false);
+    /* Values that are no objects. */
+    static const char *const others[] = { "/b", "/d%d", "/d%d/0", "/d%d/1", "/d%d/2", "/d%d/3", "/d%d/4", "/d%d/5" };
+    jsonptr_document plain = parsed("{\"b\": 1, \"d%d\": [1, \"text\", null, 2.5, true, []], \"long\": {\"long\": 3}}");
+    for (size_t i = 0; i < COUNT(others); i++) {
+        expect_no_keys(&plain, others[i], &(jsonptr_error){ .status = JSONPTR_OTHER_TYPE });
+    }
+    expect_no_keys(&plain, "/long", &(jsonptr_error){ .status = JSONPTR_NO_ROOM, .length = 4 });
+    expect_no_keys(&plain, "a", &(jsonptr_error){ .status = JSONPTR_NOT_POINTER, .kind = JSONPTR_KIND_NO_LEADING_SLASH });
+    expect_no_keys(&plain, "/a/~2", &(jsonptr_error){ .status = JSONPTR_NOT_POINTER, .kind = JSONPTR_KIND_BAD_ESCAPE, .position = 1, .slash = 2,
+                                                    .offset = 3, .length = 2 });
+    expect_no_keys(&plain, "/a\xff", &(jsonptr_error){ .status = JSONPTR_NOT_UTF8, .member = JSONPTR_ARGUMENT_POINTER, .offset = 2 });
+    expect_no_keys(&empty, "a", &(jsonptr_error){ .status = JSONPTR_NO_DOCUMENT });
+    for (size_t i = 0; i < COUNT(unresolved); i++) {
+        jsonptr_document other = parsed(unresolved[i].document);
+        expect_no_keys(&other, unresolved[i].pointer, &(jsonptr_error){ .status = JSONPTR_NOT_FOUND, .kind = unresolved[i].kind,
+            .position = unresolved[i].position, .slash = unresolved[i].slash, .offset = unresolved[i].offset, .length = unresolved[i].length });
+        jsonptr_document_free(&other);
+    }
+    /* The key is looked at first. */
+    const jsonptr_error not_utf8 = { .status = JSONPTR_NOT_UTF8, .member = JSONPTR_ARGUMENT_TOKEN, .offset = 1 };
+    expect_number("status", "k\xc3", jsonptr_document_next_key(&plain, "a", 1, "k\xc3", 2, NULL, NULL, 0, NULL, &error), JSONPTR_NOT_UTF8);
+    expect_fields("k\xc3", &error, &not_utf8);
+    expect_number("status", "k\xc3", jsonptr_document_next_key(&empty, "a", 1, "k\xc3", 2, NULL, NULL, 0, NULL, &error), JSONPTR_NOT_UTF8);
+    expect_fields("k\xc3", &error, &not_utf8);
+    /* Members that are deleted on the way. */
+    char keys[2][8] = { "", "" };
+    int at = 0;
+    expect_number("status", "deleting", jsonptr_document_first_key(&document, "", 0, &found, keys[0], 8, &length, NULL), JSONPTR_OK);
+    while (found) {
+        size_t path_length = 0;
+        char path[8];
+        expect_number("status", "a pointer", jsonptr_pointer_push(path, sizeof path, &path_length, keys[at], length, NULL), JSONPTR_OK);
+        expect_number("status", "deleting", jsonptr_document_delete(&document, path, path_length, &found, NULL), JSONPTR_OK);
+        expect_number("found", path, found, true);
+        expect_number("status", "after deleting", jsonptr_document_next_key(&document, "", 0, keys[at], length, &found, keys[!at], 8, &length, NULL),
+                      JSONPTR_OK);
+        at = !at;
+    }
+    expect_document("deleting each member", &document, "{}");
+    jsonptr_document_free(&document);
+    jsonptr_document_free(&plain);
+}
+
 /* Deletions. */
 static const struct {
     const char *document, *pointer, *after;
@@ -722,9 +1148,9 @@ static void check_faulty(void) {
 static void check_longest_message(void) {
     static const uint32_t greatest[] = { 1000, UINT32_MAX };
     size_t longest = 0;
-    for (uint32_t i = 0; i < 20 * 20 * 10; i++) {
-        uint32_t status = i / 200, kind = i / 10 % 20, member = i % 10;
-        jsonptr_error error = { status < 19 ? status : greatest[i % 2], kind < 19 ? kind : greatest[i % 2],
+    for (uint32_t i = 0; i < 25 * 30 * 10; i++) {
+        uint32_t status = i / 300, kind = i / 10 % 30, member = i % 10;
+        jsonptr_error error = { status < 24 ? status : greatest[i % 2], kind < 29 ? kind : greatest[i % 2],
                                 member < 9 ? member : greatest[i % 2], UINT32_MAX, UINT64_MAX, UINT64_MAX, UINT64_MAX,
                                 UINT64_MAX, UINT64_MAX, UINT64_MAX, UINT64_MAX };
         char out[200];
@@ -1256,6 +1682,7 @@ int main(void) {
     check_rfc_pointers();
     check_pointers();
     check_tokens();
+    check_fragments();
     check_unresolved();
     check_unread();
     check_numbers();
@@ -1264,6 +1691,8 @@ int main(void) {
     check_two_texts();
     check_nodes();
     check_assignments();
+    check_setters();
+    check_keys();
     check_deletions();
     check_patches();
     check_faulty();

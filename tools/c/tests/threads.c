@@ -14,11 +14,14 @@ static jsonptr_text shared_text = JSONPTR_TEXT_INIT;
 static size_t read_shared(void) {
     char out[64];
     size_t length = 0, wrong = 0;
+    bool found = false;
     jsonptr_node node;
     wrong += jsonptr_document_node(&shared, "/a", 2, &node, NULL) != JSONPTR_OK || node.length != 2;
     wrong += jsonptr_document_string(&shared, "/a/1", 4, out, sizeof out, &length, NULL) != JSONPTR_OK || strcmp(out, "two") != 0;
     wrong += jsonptr_document_print(&shared, 0, out, sizeof out, &length, NULL) != JSONPTR_OK || strcmp(out, "{\"a\":[1,\"two\"]}") != 0;
     wrong += jsonptr_document_get(&shared, "/b", 2, 0, out, sizeof out, &length, NULL) != JSONPTR_NOT_FOUND;
+    wrong += jsonptr_document_first_key(&shared, "", 0, &found, out, sizeof out, &length, NULL) != JSONPTR_OK || !found || strcmp(out, "a") != 0;
+    wrong += jsonptr_document_next_key(&shared, "", 0, "a", 1, &found, out, sizeof out, &length, NULL) != JSONPTR_OK || found || length != 0;
     wrong += jsonptr_document_diff(&shared, &other, 0, out, sizeof out, &length, NULL) != JSONPTR_OK;
     wrong += strcmp(out, "[{\"op\":\"remove\",\"path\":\"/a/1\"}]") != 0;
     size_t start = 0;
@@ -44,6 +47,10 @@ static void *run(void *number) {
         wrong += jsonptr_resolve_in_text(text, (size_t)text_length, "/a/1", 4, 0, out, sizeof out, &length, NULL)
                  != JSONPTR_OK;
         wrong += length != (size_t)wanted_length || memcmp(out, wanted, length) != 0;
+        wrong += jsonptr_document_assign_string(&document, "/a/1", 4, wanted, (size_t)wanted_length, NULL) != JSONPTR_OK;
+        wrong += jsonptr_document_string(&document, "/a/1", 4, out, sizeof out, &length, NULL) != JSONPTR_OK;
+        wrong += length != (size_t)wanted_length || memcmp(out, wanted, length) != 0;
+        wrong += jsonptr_pointer_to_fragment(wanted, 0, out, sizeof out, &length, NULL) != JSONPTR_OK || strcmp(out, "#") != 0;
         wrong += read_shared();
         jsonptr_text edited = JSONPTR_TEXT_INIT;
         wrong += jsonptr_text_open(&edited, JSONPTR_FORMAT_JSON, text, (size_t)text_length, NULL) != JSONPTR_OK;
