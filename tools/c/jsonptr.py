@@ -63,9 +63,9 @@ from typing import (Any, AnyStr, Callable, Dict, Generic, Iterator, List, Mappin
                     SupportsIndex, Tuple, Type, Union)
 
 __all__ = ["Change", "Document", "Editor", "JsonPatchError", "JsonPointerError", "JsonptrError", "NotAssigned", "NotExact",
-           "NotFound", "NotInPlace", "NotJson", "NotPointer", "NotRenamed", "NotToml", "NotTomlValue", "OtherFormat", "Patch", "Raw",
-           "Span", "TooDeep", "apply_patch", "edit", "escape", "locate", "lost_number", "make_patch", "pointer_at", "resolve",
-           "resolve_in_text", "resolve_pointer", "set_pointer", "tokens", "version"]
+           "NotFound", "NotFragment", "NotInPlace", "NotJson", "NotPointer", "NotRenamed", "NotToml", "NotTomlValue", "OtherFormat",
+           "Patch", "Raw", "Span", "TooDeep", "apply_patch", "edit", "escape", "from_fragment", "locate", "lost_number", "make_patch",
+           "pointer_at", "resolve", "resolve_in_text", "resolve_pointer", "set_pointer", "to_fragment", "tokens", "version"]
 
 __version__ = "0.4.0-dev"
 
@@ -74,7 +74,7 @@ JSON = Union[None, bool, int, float, str, Sequence["JSON"], Mapping[str, "JSON"]
 
 OK, NO_MEMORY, NO_ROOM, BAD_ARGUMENT, NO_DOCUMENT, NOT_UTF8, NOT_JSON, NOT_POINTER, NO_TOKEN, NOT_FOUND, OTHER_TYPE, \
     NOT_ASSIGNED, NOT_PATCH, PATCH_FAILED, TOO_DEEP, NOT_EXACT, NOT_LOCATED, NO_VALUE, NOT_IN_PLACE, NOT_TOML, \
-    NOT_TOML_VALUE, NOT_RENAMED, OTHER_FORMAT = range(23)
+    NOT_TOML_VALUE, NOT_RENAMED, OTHER_FORMAT, NOT_FRAGMENT = range(24)
 MEMBERS = [None, "op", "path", "from", "value", "pointer", "token", "text"]
 
 
@@ -143,6 +143,8 @@ _text_rename, _text_patch = _function("text_rename"), _function("text_patch")
 _text_locate, _text_pointer_at = _function("text_locate"), _function("text_pointer_at")
 _text_remove_comments, _text_relayout = _function("text_remove_comments"), _function("text_relayout")
 _count, _escape = _function("pointer_count"), _function("pointer_escape")
+_from_fragment, _to_fragment = _function("pointer_from_fragment"), _function("pointer_to_fragment")
+_first_key, _next_key = _function("document_first_key"), _function("document_next_key")
 _error_message, _version = _function("error_message"), _function("version", ctypes.c_char_p)
 _size, _at = ctypes.c_size_t, ctypes.byref
 _COMPACT, _PRETTY = ctypes.c_uint32(0), ctypes.c_uint32(1)
@@ -188,6 +190,10 @@ JsonPointerError = JsonptrError  # its name in version 0.2
 
 class NotPointer(JsonptrError):
     """A text is not a JSON Pointer."""
+
+
+class NotFragment(JsonptrError):
+    """A text is not the fragment of a JSON Pointer. `offset` is that of its fault, in characters as in bytes."""
 
 
 class NotJson(JsonptrError):
@@ -245,7 +251,7 @@ _CLASSES: Dict[int, Type[JsonptrError]] = {
     NOT_JSON: NotJson, NOT_POINTER: NotPointer, NOT_FOUND: NotFound, NO_VALUE: NotFound, NOT_ASSIGNED: NotAssigned,
     NOT_PATCH: JsonPatchError, PATCH_FAILED: JsonPatchError, TOO_DEEP: TooDeep, NOT_EXACT: NotExact,
     NOT_IN_PLACE: NotInPlace, NOT_RENAMED: NotRenamed, NOT_TOML: NotToml, NOT_TOML_VALUE: NotTomlValue,
-    OTHER_FORMAT: OtherFormat}
+    OTHER_FORMAT: OtherFormat, NOT_FRAGMENT: NotFragment}
 
 
 def _fail(status: int, error: _Error) -> NoReturn:
@@ -382,6 +388,29 @@ def escape(token: Text) -> str:
     """Returns a token as it is written in a pointer."""
     text = _text(token)
     return _Buffer(2 * len(text[0]) + 1).fill(_escape, *text).decode()
+
+
+def from_fragment(fragment: Text) -> str:
+    """Returns the pointer of a URI's fragment (RFC 6901, section 6): of a text that begins with "#", as in the `$ref` of a schema.
+
+        >>> from_fragment("#/a%20b"), from_fragment("#")
+        ('/a b', '')
+
+    Any character may be percent-encoded. One that RFC 3986 does not allow in a fragment, as a space or "\u00fc", has to be: else the
+    error is `NotFragment`, with the offset of the fault.
+    """
+    text = _text(fragment)
+    return _Buffer(len(text[0]) + 1).fill(_from_fragment, *text).decode()
+
+
+def to_fragment(pointer: Text) -> str:
+    """Returns the fragment of a pointer, with its "#". Only what RFC 3986 does not allow in a fragment is percent-encoded.
+
+        >>> to_fragment("/a b/\u00fc~1")
+        '#/a%20b/%C3%BC~1'
+    """
+    text = _text(pointer)
+    return _Buffer(3 * len(text[0]) + 2).fill(_to_fragment, *text).decode()
 
 
 def resolve(document: Union["Document", JSON], pointer: Text) -> Any:
@@ -593,6 +622,37 @@ class Document(_Locked):
     def resolve(self, pointer: Text) -> Any:
         """Returns the value that the pointer resolves to, as a Python value."""
         return _value(self.get(pointer))
+
+    def _key(self, call: Any, *arguments: Any) -> Optional[bytes]:
+        """Returns the key that a call copies, or None if it finds none."""
+        found = ctypes.c_bool()
+        with self._held():
+            key = self._buffer.fill(call, self._at, *arguments, _at(found))
+        return key if found.value else None
+
+    def keys(self, pointer: Text = "") -> Iterator[str]:
+        """Returns an iterator over the keys of the object that the pointer resolves to, in the order of their code points.
+
+            >>> document = Document('{"sizes": {"s": 3, "m": 5, "l": 8}}')
+            >>> list(document.keys("/sizes"))
+            ['l', 'm', 's']
+            >>> for key in document.keys("/sizes"):
+            ...     print(to_fragment("/sizes/" + escape(key)), document.resolve("/sizes/" + escape(key)))
+            #/sizes/l 8
+            #/sizes/m 5
+            #/sizes/s 3
+
+        The error is `NotFound` if nothing is there, and a `JsonptrError` of the status OTHER_TYPE if the value is no object. The
+        document may change on the way: each key is the least one after the last, at that time.
+        """
+        at = _text(pointer)
+        return self._keys_from(at, self._key(_first_key, *at))
+
+    def _keys_from(self, at: Tuple[bytes, ctypes.c_size_t], key: Optional[bytes]) -> Iterator[str]:
+        """Yields a key and those after it, of the object that a pointer resolves to."""
+        while key is not None:
+            yield key.decode()
+            key = self._key(_next_key, *at, *_text(key))
 
     def assign(self, pointer: Text, value: JSON, *, lossy: bool = False) -> None:
         """Assigns a Python value at the pointer, and creates what is missing on the way.

@@ -13,7 +13,9 @@ import struct
 import subprocess
 import sys
 import tempfile
+import threading
 import time
+import urllib.parse
 
 import jsonptr
 
@@ -52,12 +54,14 @@ def errors():
         caught(jsonptr.resolve, {"a": "\ud800"}, ""),
         caught(jsonptr.Document, '{"id": 12345678901234567890123}'),
         caught(deep.assign, "/7", 1),
+        caught(jsonptr.from_fragment, "#/%20/~2"),
+        caught(deep.keys),
     ]
 
 
 # The class of each of these errors.
 CLASSES = ("NotFound", "NotPointer", "JsonptrError", "JsonptrError", "NotJson", "JsonPatchError", "JsonPatchError", "TooDeep", "NotJson",
-           "JsonptrError", "NotExact", "NotAssigned")
+           "JsonptrError", "NotExact", "NotAssigned", "NotFragment", "JsonptrError")
 
 
 def check_errors():
@@ -345,6 +349,91 @@ def check_tokens():
     assert time.process_time() - start < 2
 
 
+# What stands for itself in a fragment besides letters and digits (RFC 3986, section 3.5).
+OF_FRAGMENTS = "-._~!$&'()*+,;=:@/?"
+
+
+def random_text(chance, most):
+    """Returns a text of fewer characters than so many, of ASCII and of all planes."""
+    ranges = (range(128), range(0xd800), range(0xe000, 0x110000))
+    return "".join(chr(chance.choice(chance.choice(ranges))) for _ in range(chance.randrange(most)))
+
+
+def check_fragments():
+    """Checks fragments beside `urllib.parse`, of pointers of random characters, and the errors of those that are none."""
+    chance = random.Random(11)
+    for _ in range(3_000):
+        parts = [random_text(chance, 4), random_text(chance, 8), ""][:chance.randrange(4)]
+        pointer = "".join("/" + jsonptr.escape(part) for part in parts)
+        fragment = "#" + urllib.parse.quote(pointer, safe=OF_FRAGMENTS)
+        assert jsonptr.to_fragment(pointer) == fragment == jsonptr.to_fragment(pointer.encode()), pointer
+        assert jsonptr.from_fragment(fragment) == pointer == jsonptr.from_fragment(fragment.encode()), fragment
+        other = "#" + "".join(chr(byte) if chr(byte) in OF_FRAGMENTS and chance.random() < 0.5 else chance.choice(("%%%02X", "%%%02x")) % byte
+                              for byte in pointer.encode())
+        assert jsonptr.from_fragment(other) == jsonptr.from_fragment(other.encode()) == pointer == urllib.parse.unquote(other[1:]), other
+    for byte in range(1, 128):
+        text = f"#/{chr(byte)}"
+        if chr(byte).isalnum() or chr(byte) in OF_FRAGMENTS.replace("~", ""):
+            assert jsonptr.from_fragment(text) == text[1:] == jsonptr.from_fragment(jsonptr.to_fragment(text[1:])), text
+        else:
+            error = caught(jsonptr.from_fragment, text)
+            assert type(error) is jsonptr.NotFragment and (error.status, error.offset) == (23, 2), text
+    for text, kind, offset, slash in (("", 25, 0, 0), ("/a", 25, 0, 0), ("#/%20\u00e9 ", 26, 5, 0), ("##", 26, 1, 0), ("#/100%", 27, 5, 0),
+                                      ("#/%e9", 28, 2, 0), ("#a", 1, 1, 0), ("#/%20/~2", 2, 6, 2)):
+        error = caught(jsonptr.from_fragment, text)
+        assert type(error) is jsonptr.NotFragment and isinstance(error, ValueError), repr(error)
+        fields = (error.status, error.kind, error.offset, error.slash, error.position, error.length)
+        assert fields == (23, kind, offset, slash, 0, 0), repr(error)
+        assert str(error).startswith("not a URI fragment of a JSON Pointer: "), error
+    error = caught(jsonptr.from_fragment, b"#/\xff")
+    assert (type(error), error.status, error.offset, error.member) == (jsonptr.JsonptrError, 5, 2, "text"), repr(error)
+    error = caught(jsonptr.from_fragment, "#\u00e9\ud800")
+    assert (type(error), error.status, error.offset) == (jsonptr.JsonptrError, 5, 3), repr(error)
+    assert type(caught(jsonptr.to_fragment, "a")) is jsonptr.NotPointer and caught(jsonptr.to_fragment, b"/\xff").member == "pointer"
+    assert isinstance(caught(jsonptr.to_fragment, 1), TypeError) and isinstance(caught(jsonptr.from_fragment, None), TypeError)
+    long = "/" + "\u00e9" * 100_000
+    assert jsonptr.from_fragment(jsonptr.to_fragment(long)) == long and jsonptr.to_fragment(long) == "#/" + "%C3%A9" * 100_000
+    assert jsonptr.from_fragment(Long(b"#/a")) == "/a" and jsonptr.to_fragment(Text("/a")) == "#/a"
+
+
+def check_keys():
+    """Checks the keys of objects: their order, an object that changes on the way, long keys, and errors."""
+    chance = random.Random(12)
+    for size in (0, 1, 2, 12, 200):
+        value = {random_text(chance, 4): 1 for _ in range(size)}
+        assert list(jsonptr.Document.of(value).keys()) == sorted(value) == list(jsonptr.Document.of([{"a/b": value}]).keys(b"/0/a~1b"))
+    document = jsonptr.Document('{"a": 1, "b": {"x": 2}, "c": [3], "d": "\u00e9"}')
+    assert [key for key in document.keys() if document.delete("/" + key)] == ["a", "b", "c", "d"] and document.text() == "{}"
+    document = jsonptr.Document('{"b": 1, "d": 2}')
+    keys = document.keys()
+    document.apply([{"op": "add", "path": "/a", "value": 0}, {"op": "add", "path": "/c", "value": 0}, {"op": "remove", "path": "/d"}])
+    assert list(keys) == ["b", "c"] and list(document.keys()) == ["a", "b", "c"] and list(keys) == []
+    keys = document.keys()
+    document.assign("", [])
+    assert next(keys) == "a" and caught(next, keys).status == jsonptr.OTHER_TYPE
+    long = jsonptr.Document.of({"k" * 1_000: 1, "k" * 100_000: 2, "": 3, "\0": 4})
+    assert list(long.keys()) == ["", "\0", "k" * 1_000, "k" * 100_000] and long._buffer.size.value <= 65_536
+    for text in ("[]", "1", '"a"', "null", "true", "1.5"):
+        error = caught(jsonptr.Document(text).keys)
+        assert (type(error), error.status, str(error)) == (jsonptr.JsonptrError, jsonptr.OTHER_TYPE, "the value is of another type")
+    error = caught(long.keys, "/none")
+    assert type(error) is jsonptr.NotFound and (error.position, error.slash, error.offset, error.length) == (0, 0, 1, 4)
+    assert type(caught(long.keys, "none")) is jsonptr.NotPointer and caught(long.keys, b"/\xff").member == "pointer"
+    assert isinstance(caught(long.keys, 1), TypeError)
+    # Threads that read and one that writes: each key is one that the object has had.
+    document, seen = jsonptr.Document.of({str(number): 1 for number in range(100, 200)}), []
+    readers = [threading.Thread(target=lambda: seen.extend(document.keys())) for _ in range(4)]
+    for reader in readers:
+        reader.start()
+    for number in range(100, 200):
+        document.delete(f"/{number}")
+        document.assign(f"/{number + 100}", 1)
+    for reader in readers:
+        reader.join()
+    assert set(seen) <= {str(number) for number in range(100, 300)}
+    assert list(document.keys()) == [str(number) for number in range(200, 300)]
+
+
 def check_page():
     """Checks the first Python code of docs/C.md: it runs, and each expression has the value that is beside it."""
     with open(PAGE, encoding="utf-8") as file:
@@ -358,7 +447,7 @@ def check_page():
             values += 1
         else:
             exec(source, names)
-    assert values == 4, values
+    assert values == 7, values
 
 
 def functions():
@@ -412,9 +501,11 @@ def check_version():
 
 def main():
     for check in (check_errors, check_processes, check_documents, check_copies, check_buffers, check_fork, check_later_library,
-                  check_arguments, check_exact, check_doors, check_locations, check_tokens, check_page, check_library, check_version):
+                  check_arguments, check_exact, check_doors, check_locations, check_tokens, check_fragments, check_keys, check_page,
+              check_library, check_version):
         check()
-    print("the module jsonptr: errors, documents, copies, buffers, forks, arguments, exact numbers, locations, tokens, the page, library")
+    print("the module jsonptr: errors, documents, copies, buffers, forks, arguments, exact numbers, locations, tokens, "
+          "fragments, keys, the page, library")
 
 
 if __name__ == "__main__":
