@@ -86,7 +86,7 @@ error_message (Resolve e) = resolve_message e
 error_message NotLocated = codes "value cannot be located in the text"
 error_message (NoValue offset) = codes "no value is at offset " ++ decimal offset
 error_message OtherType = codes "the value is of another type"
-error_message NotFinite = codes "an argument is NULL or too long, a flag is unknown, one document is passed twice, or a number is not finite"
+error_message NotFinite = codes "an argument is NULL, too long, not finite or passed twice, or a flag is unknown"
 error_message (Assign e) = assign_message e
 error_message (NotPatch e) = patch_document_message e
 error_message (PatchFailed f) = patch_message f.error
@@ -111,7 +111,7 @@ fixed_message status =
     if status == number.OK then codes "no error"
     else if status == number.NO_MEMORY then codes "out of memory"
     else if status == number.NO_ROOM then codes "the buffer is too short"
-    else if status == number.BAD_ARGUMENT then codes "an argument is NULL or too long, a flag is unknown, one document is passed twice, or a number is not finite"
+    else if status == number.BAD_ARGUMENT then codes "an argument is NULL, too long, not finite or passed twice, or a flag is unknown"
     else if status == number.NO_DOCUMENT then codes "the handle holds no document"
     else if status == number.NOT_UTF8 then codes "text is not UTF-8"
     else if status == number.NOT_JSON then codes "text is not JSON"

@@ -93,7 +93,7 @@ fn fixed_message(status: u32) -> &'static str
         NO_MEMORY => "out of memory",
         NO_ROOM => "the buffer is too short",
         BAD_ARGUMENT => {
-            "an argument is NULL or too long, a flag is unknown, one document is passed twice, or a number is not finite"
+            "an argument is NULL, too long, not finite or passed twice, or a flag is unknown"
         }
         NO_DOCUMENT => "the handle holds no document",
         NOT_UTF8 => "text is not UTF-8",

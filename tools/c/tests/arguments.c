@@ -21,7 +21,7 @@ static void check_bad(void) {
     EXPECT(jsonptr_pointer_count(NULL, 1, &length, &error), BAD);
     expect_number("status of the error", "NULL", error.status, BAD);
     expect_number("kind of the error", "NULL", error.kind, 0);
-    expect_message("NULL", &error, "an argument is NULL or too long, a flag is unknown, one document is passed twice, or a number is not finite");
+    expect_message("NULL", &error, "an argument is NULL, too long, not finite or passed twice, or a flag is unknown");
     EXPECT(jsonptr_pointer_count("", huge, &length, NULL), BAD);
     EXPECT(jsonptr_pointer_token(NULL, 1, 0, out, 8, &length, NULL), BAD);
     EXPECT(jsonptr_pointer_token("/a", 2, 0, NULL, 8, &length, NULL), BAD);
