@@ -57,7 +57,8 @@ pub extern "C" fn jsonptrcore_document_first_key(
     }
 }
 
-/// Copies the least key after another one, of the object at the pointer, to the buffer, if it has one.
+/// Copies the least key after another one, of the object at the pointer, to the buffer, if it has
+/// one.
 #[unsafe(no_mangle)]
 pub extern "C" fn jsonptrcore_document_next_key(
     alloc: Global,

@@ -9,9 +9,8 @@ ghost use Rattle.jsonptr_c_calls.specs.Pointers.{HasCount, HasToken, Extends, Sh
 ghost use Rattle.jsonptr_c_calls.specs.declared.call_error.CallError.{CallError};
 
 use jsonptr_c_calls::error_numbers::ErrorRecord;
-use jsonptr_c_calls::fragments;
 use jsonptr_c_calls::outcome::{fail, fail_with_length, succeed};
-use jsonptr_c_calls::pointers;
+use jsonptr_c_calls::{fragments, pointers};
 use std::alloc::Global;
 
 /// Counts the tokens of the pointer.

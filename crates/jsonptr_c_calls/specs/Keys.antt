@@ -74,8 +74,8 @@ FindsNextKey d bytes k n = (v : Data) × FindsAtPointer d bytes v × IsNextKey v
 abbrev pub FindsNoNextKey : Data → List ℕ → List ℕ → Type 0
 FindsNoNextKey d bytes k = (v : Data) × FindsAtPointer d bytes v × HasNoNextKey v k
 
--- `CopiesFirstKey d bytes found out`: the least key of that object is in the first bytes of `out`, as many as `found` says, or it has
--- no key, and `found` is `None`
+-- `CopiesFirstKey d bytes found out`: the least key of that object is in the first bytes of `out`, as many as `found` says, or it
+-- has no key, and `found` is `None`
 abbrev pub CopiesFirstKey : Data → List ℕ → Option ℕ → List ℕ → Type 0
 CopiesFirstKey d bytes found out = MatchOption found (FindsNoKey d bytes) (λ n. FindsFirstKey d bytes (take n out))
 
@@ -92,8 +92,8 @@ IsNoObject d bytes e =
     Unfound d bytes e
     ⊎ ((v : Data) × IsUtf8 bytes × FindsAtPointer d bytes v × (as_object v ≡ None) × (e ≡ OtherType))
 
--- `IsNoFirstKey d bytes room e`: the pointer `bytes` does not resolve to an object of the document `d`, or its least key is longer than
--- `room` bytes, and `e` reports that
+-- `IsNoFirstKey d bytes room e`: the pointer `bytes` does not resolve to an object of the document `d`, or its least key is
+-- longer than `room` bytes, and `e` reports that
 abbrev pub IsNoFirstKey : Data → List ℕ → ℕ → CallError → Type 0
 IsNoFirstKey d bytes room e =
     IsNoObject d bytes e
@@ -105,8 +105,8 @@ LacksNextKey d bytes k room e =
     IsNoObject d bytes e
     ⊎ ((n : List ℕ) × IsUtf8 bytes × FindsNextKey d bytes k n × LacksRoom (length n) room e)
 
--- `IsNoNextKey d bytes k room e`: the key `k` is not UTF-8, or an allocation failed, or no key after it comes to `room` bytes from the
--- document in the handle `d`, and `e` reports that
+-- `IsNoNextKey d bytes k room e`: the key `k` is not UTF-8, or an allocation failed, or no key after it comes to `room` bytes
+-- from the document in the handle `d`, and `e` reports that
 abbrev pub IsNoNextKey : Handle → List ℕ → List ℕ → ℕ → CallError → Type 0
 IsNoNextKey d bytes k room e =
     IsNotUtf8 argument.Token k e

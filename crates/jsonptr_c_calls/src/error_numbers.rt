@@ -17,7 +17,8 @@ pub const OK: u32 = 0;
 pub const NO_MEMORY: u32 = 1;
 /// The buffer is shorter than the result.
 pub const NO_ROOM: u32 = 2;
-/// An argument cannot be used: a number is not finite, or the layer in C, which checks arguments, says so.
+/// An argument cannot be used: a number is not finite. The layer in C, which checks arguments, has
+/// other cases.
 pub const BAD_ARGUMENT: u32 = 3;
 /// The handle holds no document.
 pub const NO_DOCUMENT: u32 = 4;

@@ -16,8 +16,8 @@ use serde_json::{Map, Value};
 use std::alloc::Global;
 use std::ops::Bound;
 
-/// Copies the least key of the object that the pointer resolves to to the buffer, and returns its length
-/// in bytes, or `None` if the object has no member. Keys are compared by their bytes.
+/// Copies the least key of the object that the pointer resolves to to the buffer, and returns its
+/// length in bytes, or `None` if the object has no member. Keys are compared by their bytes.
 ///
 /// This takes time in proportion to the logarithm of the number of members.
 ///
@@ -65,12 +65,13 @@ pub fn first_key(
     found
 }
 
-/// Copies the least key that is greater than `key`, of the object that the pointer resolves to, to the
-/// buffer, and returns its length in bytes, or `None` if there is none. Keys are compared by their bytes,
-/// and `key` need not be one of the object.
+/// Copies the least key that is greater than `key`, of the object that the pointer resolves to, to
+/// the buffer, and returns its length in bytes, or `None` if there is none. Keys are compared by
+/// their bytes, and `key` need not be one of the object.
 ///
-/// So [`first_key`], and then this call with each key that it returns, visit each key of the object once,
-/// in ascending order. Each call takes time in proportion to the logarithm of the number of members.
+/// So [`first_key`], and then this call with each key that it returns, visit each key of the object
+/// once, in ascending order. Each call takes time in proportion to the logarithm of the number of
+/// members.
 ///
 /// # Errors
 ///
@@ -120,13 +121,13 @@ pub fn next_key(
     found
 }
 
-/// Copies the least key of the object that the pointer resolves to to the buffer, and returns its length,
-/// or `None` if the object has no member.
+/// Copies the least key of the object that the pointer resolves to to the buffer, and returns its
+/// length, or `None` if the object has no member.
 ///
 /// # Errors
 ///
-/// Those of [`members_at`], and [`CallError::NoRoom`] if the buffer is shorter than the key. The buffer is
-/// unchanged.
+/// Those of [`members_at`], and [`CallError::NoRoom`] if the buffer is shorter than the key. The
+/// buffer is unchanged.
 fn copy_first(
     alloc: Global,
     document: &Value,
@@ -147,13 +148,13 @@ fn copy_first(
     }
 }
 
-/// Copies the least key after the other one, of the object that the pointer resolves to, to the buffer,
-/// and returns its length, or `None` if there is none.
+/// Copies the least key after the other one, of the object that the pointer resolves to, to the
+/// buffer, and returns its length, or `None` if there is none.
 ///
 /// # Errors
 ///
-/// Those of [`members_at`], and [`CallError::NoRoom`] if the buffer is shorter than the key. The buffer is
-/// unchanged.
+/// Those of [`members_at`], and [`CallError::NoRoom`] if the buffer is shorter than the key. The
+/// buffer is unchanged.
 fn copy_next(
     alloc: Global,
     document: &Value,
@@ -186,8 +187,8 @@ fn members_at<'v>(
     document: &'v Value,
     pointer: &[u8],
 ) -> Result<&'v Map<String, Value>, CallError>
-    ensures found { IfOk result (λ members.
-        FindsAtPointer (view document.now) pointer.now (object (members_view members.now.entries))) }
+    ensures found { IfOk result (λ members. FindsAtPointer (view document.now) pointer.now
+        (object (members_view members.now.entries))) }
     ensures utf8 { OnOk result (IsUtf8 pointer.now) }
     ensures refused { IfErr result (IsNoObject (view document.now) pointer.now) }
 {
@@ -208,11 +209,13 @@ fn first_of(members: &Map<String, Value>) -> Option<&str>
     }
 }
 
-/// Returns the least key of the members that is greater than the other one, or `None` if there is none.
+/// Returns the least key of the members that is greater than the other one, or `None` if there is
+/// none.
 fn next_of<'m>(members: &'m Map<String, Value>, key: &String) -> Option<&'m str>
     ensures { MatchOption result
         (HasNoNextKey (object (members_view members.now.entries)) (string_bytes key.now))
-        (λ next. IsNextKey (object (members_view members.now.entries)) (string_bytes key.now) next.now) }
+        (λ next. IsNextKey (object (members_view members.now.entries))
+        (string_bytes key.now) next.now) }
 {
     let mut after = members.range((Bound::Excluded(key), Bound::Unbounded));
     match after.next() {

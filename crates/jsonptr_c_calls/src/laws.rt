@@ -48,8 +48,9 @@ pub fn message_law()
     ensures short { (r : ErrorRecord) → HasMessageNumbers r → length (message_of r) ≤ message_room }
 {}
 
-/// States that `first_key`, and then `next_key` with each key that is returned, visit each key of an object
-/// once, in ascending order: each of these keys is fixed, they ascend, and they are the keys of the object.
+/// States that `first_key`, and then `next_key` with each key that is returned, visit each key of an
+/// object once, in ascending order: each of these keys is fixed, they ascend, and they are the keys of
+/// the object.
 pub fn keys_law()
     ensures first { (d : Data) (k l : List ℕ) → IsFirstKey d k → IsFirstKey d l → k ≡ l }
     ensures next { (d : Data) (k m n : List ℕ) → IsNextKey d k m → IsNextKey d k n → m ≡ n }
@@ -63,8 +64,8 @@ pub fn keys_law()
 /// can fail. Of the calls on fragments it fixes the whole error.
 /// For `patch` and `patch_with_inverse` it is stated of their text and of its operations, apart.
 /// If an operation fails, the whole error is fixed. Of `lost_number`, `patch_with_inverse` and `pointer_at` a
-/// buffer that is too short is left out, and `diff` and `message` as a whole. The errors of `assign_integer`,
-/// `assign_natural`, `assign_boolean` and `assign_null` are those of `assign_value`.
+/// buffer that is too short is left out, and `diff` and `message` as a whole. The errors of
+/// `assign_integer`, `assign_natural`, `assign_boolean` and `assign_null` are those of `assign_value`.
 pub fn one_error_law()
     ensures count { (bytes : List ℕ) (e f : CallError)
         → IsNoPointer bytes e → IsNoPointer bytes f → SameStatus e f }
@@ -149,7 +150,8 @@ pub fn one_error_law()
 ///   digits (`none_lost`), it is read as a float;
 /// - `NotLocated` of `locate` and `pointer_at`, and `NoValue` and `NoRoom` of `pointer_at`.
 ///
-/// `assign_value` is also that of the integers, natural numbers, booleans and null that are assigned.
+/// The clause `assign_value` is also that of the integers, natural numbers, booleans and null that are
+/// assigned.
 pub fn not_both_law()
     ensures count { (pointer : List ℕ) (n : ℕ) (e : CallError)
         → IsUtf8 pointer → HasCount pointer n

@@ -15,8 +15,8 @@ use crate::pointers::text_of;
 use serde_json::{Number, Value};
 use std::alloc::Global;
 
-/// Assigns the string at the location that the pointer identifies, by [`assign_value`]. It is passed as
-/// its bytes, with no quotation marks and no escapes.
+/// Assigns the string at the location that the pointer identifies, by [`assign_value`]. It is
+/// passed as its bytes, with no quotation marks and no escapes.
 ///
 /// # Errors
 ///
@@ -122,8 +122,8 @@ pub fn assign_natural(
     assign_value(alloc, document, pointer, Value::from(natural))
 }
 
-/// Assigns the number at the location that the pointer identifies, by [`assign_value`]. It is a number
-/// with a fraction in JSON, also if it is whole: 1 becomes `1.0`.
+/// Assigns the number at the location that the pointer identifies, by [`assign_value`]. It is a
+/// number with a fraction in JSON, also if it is whole: 1 becomes `1.0`.
 ///
 /// # Errors
 ///
