@@ -60,12 +60,13 @@ pub fn keys_law()
         → Visits d keys → HasKey d k ↔ Contains keys k }
 {}
 
-/// States that what a call is passed fixes the status with which it fails, except that an allocation
-/// can fail. Of the calls on fragments it fixes the whole error.
-/// For `patch` and `patch_with_inverse` it is stated of their text and of its operations, apart.
-/// If an operation fails, the whole error is fixed. Of `lost_number`, `patch_with_inverse` and `pointer_at` a
-/// buffer that is too short is left out, and `diff` and `message` as a whole. The errors of
-/// `assign_integer`, `assign_natural`, `assign_boolean` and `assign_null` are those of `assign_value`.
+/// States that what a call is passed fixes the status with which it fails, except that an allocation can
+/// fail. It fixes the whole error of an operation of a patch, and of the calls on fragments.
+///
+/// For `patch` and `patch_with_inverse` it is stated of their text and of its operations, apart. Of
+/// `lost_number`, `patch_with_inverse` and `pointer_at` a buffer that is too short is left out, and `diff`,
+/// `message`, `quote` and the calls on an open text as a whole. The errors of `assign_integer`,
+/// `assign_natural`, `assign_boolean` and `assign_null` are those of `assign_value`.
 pub fn one_error_law()
     ensures count { (bytes : List ℕ) (e f : CallError)
         → IsNoPointer bytes e → IsNoPointer bytes f → SameStatus e f }
@@ -151,7 +152,7 @@ pub fn one_error_law()
 /// - `NotLocated` of `locate` and `pointer_at`, and `NoValue` and `NoRoom` of `pointer_at`.
 ///
 /// The clause `assign_value` is also that of the integers, natural numbers, booleans and null that are
-/// assigned.
+/// assigned. `quote` and the calls on an open text have none.
 pub fn not_both_law()
     ensures count { (pointer : List ℕ) (n : ℕ) (e : CallError)
         → IsUtf8 pointer → HasCount pointer n
