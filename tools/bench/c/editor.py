@@ -5,12 +5,13 @@
 
 FOLDER is one that tools/c/build made. TOML is beside `tomlkit` (Debian: python3-tomlkit), which keeps the layout too. JSON is
 beside `json`, which reads the text, and prints all of it anew. A time is the processor time of reading the text, one edit and
-the new text: the least of all rounds.
+the new text: the least of all rounds. Both texts have to be the same document. Needs Python 3.11.
 """
 import argparse
 import json
 import os
 import sys
+import tomllib
 
 import tomlkit
 
@@ -22,6 +23,8 @@ from speed import least, shown  # noqa: E402
 
 TABLES = 700
 RECORDS = 600
+# What reads the document of a text, to compare both results.
+READERS = {"tomlkit": tomllib.loads, "json": json.loads}
 
 
 def toml_text():
@@ -86,8 +89,8 @@ def main():
 
     print("| Text | Edit | here | beside | ratio |\n|---|---|---|---|---|")
     for text, other, name, here, there in rows(jsonptr):
-        if there() != here():
-            sys.exit(f"editor: {name} of {text}: {other} makes another text")
+        if READERS[other](there()) != READERS[other](here()):
+            sys.exit(f"editor: {name} of {text}: {other} makes another document")
         mine, others = least(here, 10, words.rounds), least(there, 1, words.rounds)
         print(f"| {text} | {name} | {shown(mine)} | `{other}` {shown(others)} | 1/{others / mine:.0f} |", flush=True)
 
