@@ -349,7 +349,7 @@ def check_tokens():
     assert time.process_time() - start < 2
 
 
-# What stands for itself in a fragment besides letters and digits (RFC 3986, section 3.5).
+# What a fragment has unencoded besides letters and digits (RFC 3986, section 3.5).
 OF_FRAGMENTS = "-._~!$&'()*+,;=:@/?"
 
 
